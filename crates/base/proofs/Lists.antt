@@ -1,0 +1,34 @@
+-- Laws on lists that the kit does not have. Assumes nothing.
+use mathlib.Core.Path.{_≡_, ap, sym, _∙_}
+use mathlib.Core.List.{List, [], _∷_, _++_}
+use Prim.Native.Nat.{ℕ, zero, suc, _<_, _+_, _-_}
+use native.Mathlib.Omega.{arith}
+use native.Mathlib.Numerals.{add-one}
+use native.Mathlib.Nat.{zero-add, add-zero, add-suc, suc-add, zero-sub, sub-zero, suc-sub-suc, le-of-suc-le-suc, not-suc-le-zero}
+use lib.ListN.{length, take, drop, getD, set, replicate}
+use lib.Seq.{paste-suc}
+
+-- a turn of a loop that copies s over the front of d
+pub copy-more : {A : Type 0} (d s : List A) (i : ℕ) (z : A) → i < length d → i < length s
+    → set (take i s ++ drop i d) i (getD s i z) ≡ take (i + 1) s ++ drop (i + 1) d
+copy-more d s i z p q = rw (add-one i) (simp zero-add at (paste-suc d 0 s i z (omega arith) q))
+
+-- the rest of a run of equal elements
+pub drop-replicate : {A : Type 0} (n m : ℕ) (a : A) → drop n (replicate m a) ≡ replicate (m - n) a
+drop-replicate zero m a = rw (sub-zero m)
+drop-replicate (suc n) zero a = rw (zero-sub (suc n))
+drop-replicate (suc n) (suc m) a = rw (suc-sub-suc m n) (drop-replicate n m a)
+
+-- ---- a table's rule, proved once: the table is `tabulate rule 0 n`, which antt computes, and so has the rule at each entry
+
+abbrev pub tabulate : {A : Type 0} → (ℕ → A) → ℕ → ℕ → List A
+tabulate f i zero = []
+tabulate f i (suc n) = f i ∷ tabulate f (suc i) n
+
+getD-tabulate : {A : Type 0} (f : ℕ → A) (d : A) (n i k : ℕ) → k < n → getD (tabulate f i n) k d ≡ f (i + k)
+getD-tabulate f d zero i k h = absurd (not-suc-le-zero h)
+getD-tabulate f d (suc n) i zero h = rw (add-zero i)
+getD-tabulate f d (suc n) i (suc k) h = getD-tabulate f d n (suc i) k (le-of-suc-le-suc h) ∙ ap f (suc-add i k ∙ sym (add-suc i k))
+
+pub table-at : {A : Type 0} (rule : ℕ → A) (d : A) (n k : ℕ) → k < n → getD (tabulate rule 0 n) k d ≡ rule k
+table-at rule d n k h = getD-tabulate rule d n 0 k h ∙ ap rule (zero-add k)

@@ -1,0 +1,4 @@
+pub mod Bit
+pub mod OneResult
+pub mod Pick
+pub mod Put

@@ -1,0 +1,15 @@
+-- `counters::dominant_bit` meets its contract. Assumes nothing.
+use borrow.Author.Needs.{needs}
+use Rattle.counters.specs.Rules.{dominantBit}
+use Rattle.counters.proofs.dominant_bit.Statement.{statement}
+use Rattle.counters.proofs.dominant_bit.Tie as tie
+
+up-to-requires : tie.Need-up-to-requires
+up-to-requires c κs = search needs
+
+returns : tie.Need-returns
+unfolding dominantBit
+returns c = cc
+
+pub dominant-bit-spec : {M : Type 1} → statement M
+dominant-bit-spec = tie.close (tie.spec up-to-requires returns)

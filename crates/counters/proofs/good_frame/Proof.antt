@@ -1,0 +1,20 @@
+-- `counters::good_frame` meets its contract. Assumes nothing.
+use borrow.Author.Tests.{lt-ltb, le-ltb}
+use borrow.Author.Needs.{needs}
+use Rattle.counters.specs.Rules.{goodFrame}
+use Rattle.counters.proofs.good_frame.Statement.{statement}
+use Rattle.counters.proofs.good_frame.Tie as tie
+
+down-requires : tie.Need-down-requires
+down-requires c κs = search needs
+
+returns : tie.Need-returns
+unfolding goodFrame
+returns c = rw (lt-ltb _ _ (c .before .if1 .taken), c .down .ensures)
+
+returns-2 : tie.Need-returns-2
+unfolding goodFrame
+returns-2 c = rw (le-ltb _ _ (c .if1 .left))
+
+pub good-frame-spec : {M : Type 1} → statement M
+good-frame-spec = tie.close (tie.spec down-requires returns returns-2)

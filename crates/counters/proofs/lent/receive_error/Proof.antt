@@ -1,0 +1,16 @@
+-- `counters::lent::receive_error` is the rule `receive_error`, behind a reference. Assumes nothing.
+use Rattle.thin.specs.Thin.{thin-spec}
+use Rattle.counters.specs.Rules.{receiveError}
+use Rattle.counters.proofs.Counters.{the-type}
+use Rattle.counters.proofs.Counters.Laws.{the-laws}
+use Rattle.counters.proofs.receive_error.Symbol as rule
+use Rattle.counters.proofs.receive_error.Met as rule-thm
+use Rattle.counters.proofs.lent.receive_error.Key.{name as self}
+use Rattle.counters.proofs.lent.receive_error.Code as code
+use Rattle.counters.proofs.lent.receive_error.Statement.{statement}
+
+pub receive-error-spec : {M : Type 1} → statement M
+unfolding code.routine
+receive-error-spec 𝓤 H 𝓜 𝓖 𝓡 =
+    thin-spec the-type the-laws receiveError 𝓤 H 𝓜 𝓖 𝓡 self rule.name code.env (code.unfolded 𝓤 H 𝓜 𝓡)
+    rule.routine code.calls-counters·receive-error (rule-thm.met 𝓤 H 𝓜 𝓖 𝓡)

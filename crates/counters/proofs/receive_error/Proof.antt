@@ -1,0 +1,15 @@
+-- `counters::receive_error` meets its contract. Assumes nothing.
+use borrow.Author.Needs.{needs}
+use Rattle.counters.specs.Rules.{receiveError}
+use Rattle.counters.proofs.receive_error.Statement.{statement}
+use Rattle.counters.proofs.receive_error.Tie as tie
+
+up-to-requires : tie.Need-up-to-requires
+up-to-requires c κs = search needs
+
+returns : tie.Need-returns
+unfolding receiveError
+returns c = cc
+
+pub receive-error-spec : {M : Type 1} → statement M
+receive-error-spec = tie.close (tie.spec up-to-requires returns)

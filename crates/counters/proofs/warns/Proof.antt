@@ -1,0 +1,13 @@
+-- `counters::warns` meets its contract. Assumes nothing.
+use borrow.Author.Tests.{le-leb, lt-leb}
+use Rattle.counters.proofs.warns.Statement.{statement}
+use Rattle.counters.proofs.warns.Tie as tie
+
+returns : tie.Need-returns
+returns c = rw (le-leb _ _ (c .if1 .taken))
+
+returns-2 : tie.Need-returns-2
+returns-2 c = rw (lt-leb _ _ (c .if1 .left))
+
+pub warns-spec : {M : Type 1} → statement M
+warns-spec = tie.close (tie.spec returns returns-2)

@@ -1,0 +1,29 @@
+// The rules that both sides of the chip call most, over a record that the caller lends: thin functions for a boundary,
+// where a `&mut` is asked for. Each calls the rule by value, which is where the work and its statement are.
+ghost use mathlib.Core.Path.{_≡_};
+ghost use Rattle.counters.specs.Rules.{receiveError, goodFrame, transmitError, completed};
+use crate::Counters;
+
+pub fn receive_error(c: &mut Counters)
+    ensures { λ _. ⌜ now (c .exit) ≡ receiveError (now (c .entry)) ⌝ }
+{
+    *c = crate::receive_error(*c);
+}
+
+pub fn good_frame(c: &mut Counters)
+    ensures { λ _. ⌜ now (c .exit) ≡ goodFrame (now (c .entry)) ⌝ }
+{
+    *c = crate::good_frame(*c);
+}
+
+pub fn transmit_error(c: &mut Counters)
+    ensures { λ _. ⌜ now (c .exit) ≡ transmitError (now (c .entry)) ⌝ }
+{
+    *c = crate::transmit_error(*c);
+}
+
+pub fn completed(c: &mut Counters)
+    ensures { λ _. ⌜ now (c .exit) ≡ completed (now (c .entry)) ⌝ }
+{
+    *c = crate::completed(*c);
+}

@@ -1,0 +1,4 @@
+pub mod Agree
+pub mod Bytes
+pub mod Turn
+pub mod Worked

@@ -1,0 +1,13 @@
+-- `frame::sent::is_extended` meets its contract. Assumes nothing.
+use borrow.Author.Needs.{needs}
+use Rattle.frame.proofs.sent.is_extended.Statement.{statement}
+use Rattle.frame.proofs.sent.is_extended.Tie as tie
+
+at-requires : tie.Need-at-requires
+at-requires c κs = search needs
+
+returns : tie.Need-returns
+returns c = rw (c .at .ensures)
+
+pub is-extended-spec : {M : Type 1} → statement M
+is-extended-spec = tie.close (tie.spec at-requires returns)

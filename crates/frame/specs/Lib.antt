@@ -1,0 +1,4 @@
+pub mod Length
+pub mod Tables
+pub mod Received
+pub mod Sent

@@ -1,0 +1,202 @@
+// A CAN frame as the HI-3110 lays it out in bytes: the length rule, the identifier's bytes to send, as read and as
+// compared, the sixteen bytes of a received message and, in `sent`, the message that 0x12 brings.
+ghost use mathlib.Core.Path.{_≡_};
+ghost use Prim.Native.Nat.{_≤_};
+ghost use lib.ListN.{length};
+ghost use Rattle.frame.specs.Length.{dataLength, dataBytes, possible, dataFits, dataOf};
+ghost use Rattle.frame.specs.Tables.{bits, idBits, idToSend, readId, compared};
+ghost use Rattle.frame.specs.Received.{received};
+
+pub mod sent;
+
+// What a frame says before its data.
+pub struct Header {
+    pub id: u32,
+    pub extended: bool,
+    pub remote: bool,
+    // The length code, kept as it came: 9 to 15 mean eight bytes too.
+    pub code: u8,
+}
+
+// An identifier's bytes in 0x12: the first two, or all four.
+pub struct IdBytes {
+    pub bytes: [u8; 4],
+    pub count: usize,
+}
+
+const DATA_LENGTH: [usize; 16] = [0, 1, 2, 3, 4, 5, 6, 7, 8, 8, 8, 8, 8, 8, 8, 8];
+
+// How many data bytes a length code means.
+pub fn data_length(code: u8) -> usize
+    ensures { λ r. ⌜ r ≡ dataLength code ⌝ }
+{
+    if code < 16 {
+        DATA_LENGTH[code as usize]
+    } else {
+        8
+    }
+}
+
+// How many data bytes a frame with this header has.
+pub fn data_bytes(h: Header) -> usize
+    ensures { λ r. ⌜ r ≡ dataBytes h ⌝ }
+{
+    let remote = h.remote;
+    if remote { 0 } else { data_length(h.code) }
+}
+
+// Whether a frame can have this header at all.
+pub fn possible(h: Header) -> bool
+    ensures { λ r. ⌜ r ≡ possible h ⌝ }
+{
+    let extended = h.extended;
+    let id = h.id;
+    if extended {
+        if id < 536870912 { h.code <= 15 } else { false }
+    } else if id < 2048 {
+        h.code <= 15
+    } else {
+        false
+    }
+}
+
+// Whether as many data bytes were given as the header asks for.
+pub fn data_fits(h: Header, given: usize) -> bool
+    ensures { λ r. ⌜ r ≡ dataFits h given ⌝ }
+{
+    given == data_bytes(h)
+}
+
+// A frame's data, with zeros up to eight bytes.
+fn data_of(h: Header, bytes: &[u8]) -> [u8; 8]
+    requires { ⌜ dataBytes h ≤ length (now bytes) ⌝ }
+    ensures { λ r. ⌜ r ≡ dataOf h (now (bytes .entry)) ⌝ }
+{
+    let n = data_bytes(h);
+    let mut eight = [0u8; 8];
+    base::put(&bytes[..n], &mut eight);
+    eight
+}
+
+// ID28 to ID0, as the tables number the bits of both kinds.
+fn id_bits(h: Header) -> u32
+    ensures { λ r. ⌜ r ≡ idBits h ⌝ }
+{
+    let extended = h.extended;
+    let id = h.id;
+    if extended {
+        id % 536870912
+    } else {
+        id % 2048 * 262144
+    }
+}
+
+// The identifier in the parts that the tables cut it into, each named by its highest bit.
+struct IdParts {
+    id28: u8,
+    id20: u8,
+    id17: u8,
+    id14: u8,
+    id6: u8,
+}
+
+fn id_parts(h: Header) -> IdParts
+    ensures { λ r. ⌜ (r .id28 ≡ bits 28 21 (idBits h)) × (r .id20 ≡ bits 20 18 (idBits h)) × (r .id17 ≡ bits 17 15 (idBits h))
+        × (r .id14 ≡ bits 14 7 (idBits h)) × (r .id6 ≡ bits 6 0 (idBits h)) ⌝ }
+{
+    let n = id_bits(h);
+    IdParts {
+        id28: (n / 2097152 % 256) as u8,
+        id20: (n / 262144 % 8) as u8,
+        id17: (n / 32768 % 8) as u8,
+        id14: (n / 128 % 256) as u8,
+        id6: (n % 128) as u8,
+    }
+}
+
+// The identifier in 0x12: Table 2.
+pub fn id_to_send(h: Header) -> IdBytes
+    ensures { λ r. ⌜ r ≡ idToSend h ⌝ }
+{
+    let extended = h.extended;
+    let p = id_parts(h);
+    let rtr = base::flag(h.remote);
+    if extended {
+        IdBytes {
+            bytes: [
+                p.id28,
+                p.id20 * 32 + 16 + 8 + p.id17,
+                p.id14,
+                p.id6 * 2 + rtr,
+            ],
+            count: 4,
+        }
+    } else {
+        IdBytes {
+            bytes: [p.id28, p.id20 * 32 + rtr * 16, 0, 0],
+            count: 2,
+        }
+    }
+}
+
+// The identifier as 0x42 to 0x48 read it: Table 5, bytes 4 to 7.
+pub fn id_as_read(h: Header) -> [u8; 4]
+    ensures { λ r. ⌜ r ≡ readId h ⌝ }
+{
+    let p = id_parts(h);
+    let ide = base::flag(h.extended);
+    let rtr = base::flag(h.remote);
+    [
+        p.id28,
+        p.id20 * 32 + ide * 16 + ide * 8 + p.id17,
+        p.id14,
+        p.id6 * 2 + rtr,
+    ]
+}
+
+// What the filters are held against: Table 4a.
+pub fn compared(h: Header, payload: [u8; 8]) -> [u8; 6]
+    ensures { λ r. ⌜ r ≡ compared h payload ⌝ }
+{
+    let p = id_parts(h);
+    let ide = base::flag(h.extended);
+    let rtr = base::flag(h.remote);
+    let d = data_of(h, &payload);
+    [
+        p.id28,
+        p.id20 * 32 + rtr * 16 + ide * 8 + p.id17,
+        p.id14,
+        p.id6 * 2,
+        d[0],
+        d[1],
+    ]
+}
+
+// A received message: Table 5, all sixteen bytes.
+pub fn received(h: Header, payload: [u8; 8], time: u16, filhit: u8) -> [u8; 16]
+    ensures { λ r. ⌜ r ≡ received h payload time filhit ⌝ }
+{
+    let id = id_as_read(h);
+    let n = data_bytes(h);
+    let ide = base::flag(h.extended);
+    let mut m = [
+        ide * 128 + filhit % 8,
+        (time / 256) as u8,
+        (time % 256) as u8,
+        id[0],
+        id[1],
+        id[2],
+        id[3],
+        h.code % 16,
+        0,
+        0,
+        0,
+        0,
+        0,
+        0,
+        0,
+        0,
+    ];
+    base::put(&payload[..n], &mut m[8..]);
+    m
+}

@@ -1,0 +1,126 @@
+// The message that 0x12 brings after its command byte: Table 2.
+ghost use mathlib.Core.Path.{_≡_};
+ghost use mathlib.Core.Bool.{true};
+ghost use lib.ListN.{getD};
+ghost use Rattle.frame.specs.Sent.{isExtended, dataFrom, standardSent, extendedSent, headerSent, rightLength, messageIn, readMessage};
+use crate::Header;
+
+pub struct Message {
+    // Told again in the transmit history.
+    pub tag: u8,
+    pub header: Header,
+    pub bytes: [u8; 8],
+}
+
+// What 0x12 brought: the message, or an empty one in its place where the length is wrong.
+pub struct Reading {
+    pub fits: bool,
+    pub message: Message,
+}
+
+// A byte that isn't there reads as zero; the length is judged apart.
+fn at(s: &[u8], i: usize) -> u8
+    ensures { λ r. ⌜ r ≡ getD (now (s .entry)) i 0 ⌝ }
+{
+    if i < s.len() { s[i] } else { 0 }
+}
+
+fn is_extended(s: &[u8]) -> bool
+    ensures { λ r. ⌜ r ≡ isExtended (now (s .entry)) ⌝ }
+{
+    at(s, 2) / 8 % 2 == 1
+}
+
+fn data_from(s: &[u8]) -> usize
+    ensures { λ r. ⌜ r ≡ dataFrom (now (s .entry)) ⌝ }
+{
+    if is_extended(s) { 6 } else { 4 }
+}
+
+fn standard(a: u8, b: u8, length: u8) -> Header
+    ensures { λ r. ⌜ r ≡ standardSent a b length ⌝ }
+{
+    Header {
+        id: (a as u32) * 8 + (b / 32 % 8) as u32,
+        extended: false,
+        remote: b / 16 % 2 == 1,
+        code: length % 16,
+    }
+}
+
+fn extended(a: u8, b: u8, c: u8, d: u8, length: u8) -> Header
+    ensures { λ r. ⌜ r ≡ extendedSent a b c d length ⌝ }
+{
+    Header {
+        id: (a as u32) * 2097152
+            + (b / 32 % 8) as u32 * 262144
+            + (b % 8) as u32 * 32768
+            + (c as u32) * 128
+            + (d / 2 % 128) as u32,
+        extended: true,
+        remote: d % 2 == 1,
+        code: length % 16,
+    }
+}
+
+fn header_sent(s: &[u8]) -> Header
+    ensures { λ r. ⌜ r ≡ headerSent (now (s .entry)) ⌝ }
+{
+    if is_extended(s) {
+        extended(at(s, 1), at(s, 2), at(s, 3), at(s, 4), at(s, 5))
+    } else {
+        standard(at(s, 1), at(s, 2), at(s, 3))
+    }
+}
+
+// The length has to be the command's for this message, whatever bytes follow its data.
+fn right_length(s: &[u8]) -> bool
+    ensures { λ r. ⌜ r ≡ rightLength (now (s .entry)) ⌝ }
+{
+    let from = data_from(s);
+    let least = from + crate::data_bytes(header_sent(s));
+    if least <= s.len() {
+        s.len() <= from + 8
+    } else {
+        false
+    }
+}
+
+fn message_in(s: &[u8]) -> Message
+    requires { ⌜ rightLength (now s) ≡ true ⌝ }
+    ensures { λ r. ⌜ r ≡ messageIn (now (s .entry)) ⌝ }
+{
+    let tag = at(s, 0);
+    let header = header_sent(s);
+    let from = data_from(s);
+    let bytes = crate::data_of(header, &s[from..]);
+    Message { tag, header, bytes }
+}
+
+pub fn read_message(s: &[u8]) -> Reading
+    ensures { λ r. ⌜ r ≡ readMessage (now (s .entry)) ⌝ }
+{
+    if right_length(s) {
+        let message = message_in(s);
+        Reading {
+            fits: true,
+            message,
+        }
+    } else {
+        let header = Header {
+            id: 0,
+            extended: false,
+            remote: false,
+            code: 0,
+        };
+        let message = Message {
+            tag: 0,
+            header,
+            bytes: [0u8; 8],
+        };
+        Reading {
+            fits: false,
+            message,
+        }
+    }
+}
