@@ -1,5 +1,20 @@
--- A number's bits, numbered as 000 numbers them: 0 is the lowest, 7 the highest of a byte.
-use Prim.Native.Nat.{ℕ, _/_, _%_, _^_}
+-- Bits and bytes, numbered as 000 numbers them: bit 0 is the lowest, 7 the highest of a byte; bytes count from 1.
+use mathlib.Core.Bool.{Bool}
+use mathlib.Core.List.{List}
+use Prim.Native.Nat.{ℕ, suc, pred, _-_, _/_, _%_, _^_}
+use lib.Dec.{eqb}
+use lib.ListN.{getD}
 
 abbrev pub bit : ℕ → ℕ → ℕ
 bit i x = x / 2 ^ i % 2
+
+abbrev pub isSet : ℕ → ℕ → Bool
+isSet i x = eqb (bit i x) 1
+
+-- bits hi to lo of a number, as the tables write "ID28 to ID21"
+abbrev pub bits : ℕ → ℕ → ℕ → ℕ
+bits hi lo x = x / 2 ^ lo % 2 ^ (suc hi - lo)
+
+-- byte k of a table, and 0 past its end
+abbrev pub byte : List ℕ → ℕ → ℕ
+byte table k = getD table (pred k) 0

@@ -7,13 +7,12 @@ use native.Mathlib.Omega.{arith}
 use borrow.Author.Tests.{eq-eqb, ne-eqb, ltb-true, leb-true}
 use lib.Dec.{eqb, leb, ltb, lit<}
 use lib.Pow.{mod-pow-add}
-use Rattle.base.specs.Bit.{bit}
+use Rattle.base.specs.Bit.{bit, bits}
 use Rattle.base.specs.Pick.{pick, flag}
 use Rattle.base.proofs.Booleans.{and-left, and-right}
 use Rattle.frame.specs.declared.Header.{Header}
 use Rattle.frame.specs.Length.{possible}
-use Rattle.frame.specs.Tables.{bits, idBits}
-use Rattle.frame.specs.Received.{idFrom}
+use Rattle.frame.specs.Tables.{idBits, idFrom}
 
 -- ---- flags
 

@@ -8,12 +8,12 @@ use native.Mathlib.Omega.{arith}
 use borrow.Author.Tests.{le-leb}
 use lib.Dec.{lit<, lit≤}
 use lib.ListN.{length, take, drop}
-use Rattle.base.specs.Bit.{bit}
+use Rattle.base.specs.Bit.{bit, bits}
 use Rattle.base.specs.Pick.{pick, flag}
 use Rattle.frame.specs.declared.Header.{Header}
 use Rattle.frame.specs.Length.{possible, dataBytes, dataOf}
-use Rattle.frame.specs.Tables.{bits, idBits, idToSend}
-use Rattle.frame.specs.Sent.{isExtended, dataFrom, headerSent, standardSent, extendedSent, rightLength, readMessage}
+use Rattle.frame.specs.Tables.{idBits, idToSend}
+use Rattle.frame.specs.Sent.{isExtended, dataFrom, headerSent, standardHeader, extendedHeader, rightLength, readMessage}
 use Rattle.frame.proofs.Parts.{flag-le, flag-back, third-bit, last-bit, id-back, code-fits, id-fits, id-bits-lt, id-bits-back, header-path}
 
 -- "A message to send is tag, identifier (2 or 4 bytes), length code, data."
@@ -32,7 +32,7 @@ module _ (tag id code : ℕ) (r : Bool) (payload : List ℕ) where
   unfolding idToSend headerSent
   extended-back ok =
       rw (flag-back true _ (third-bit n 1 1 (flag r) (lit≤ tt) (lit≤ tt) f≤1))
-      (header-path (extendedSent (bits 28 21 n) (bits 20 18 n * 32 + 16 + 8 + bits 17 15 n) (bits 14 7 n) (bits 6 0 n * 2 + flag r) code) (header true)
+      (header-path (extendedHeader (bits 28 21 n) (bits 20 18 n * 32 + 16 + 8 + bits 17 15 n) (bits 14 7 n) (bits 6 0 n * 2 + flag r) code) (header true)
       (id-back n 1 1 (flag r) (lit≤ tt) (lit≤ tt) f≤1 (id-bits-lt (header true) ok) ∙ id-bits-back (header true) ok)
       refl
       (flag-back r _ (last-bit n 1 1 (flag r) (lit≤ tt) (lit≤ tt) f≤1))
@@ -59,7 +59,7 @@ module _ (tag id code : ℕ) (r : Bool) (payload : List ℕ) where
   unfolding idToSend headerSent idBits
   standard-back ok =
       rw (flag-back false _ (standard-kind upper (flag r) small f≤1))
-      (header-path (standardSent (bits 28 21 (idBits (header false))) (upper * 32 + flag r * 16) code) (header false)
+      (header-path (standardHeader (bits 28 21 (idBits (header false))) (upper * 32 + flag r * 16) code) (header false)
       (rw (standard-upper upper (flag r) small f≤1) (standard-id (id-fits (header false) ok)))
       refl
       (flag-back r _ (standard-remote upper (flag r) small f≤1))

@@ -3,18 +3,18 @@ use mathlib.Core.Bool.{Bool, true, false, _&&_}
 use mathlib.Core.List.{List}
 use Prim.Native.Nat.{ℕ, _+_, _*_, _%_, _^_}
 use lib.Dec.{leb}
-use lib.ListN.{getD, length, drop, replicate}
+use lib.ListN.{length, drop, replicate}
+use Rattle.base.specs.Bit.{bits, byte, isSet}
 use Rattle.base.specs.Pick.{pick}
 use Rattle.frame.specs.declared.Header.{Header}
 use Rattle.frame.specs.declared.sent.Message.{Message}
 use Rattle.frame.specs.declared.sent.Reading.{Reading}
 use Rattle.frame.specs.Length.{dataBytes, dataOf}
-use Rattle.frame.specs.Tables.{bits}
-use Rattle.frame.specs.Received.{idFrom, isSet}
+use Rattle.frame.specs.Tables.{idFrom}
 
 -- "in 0x12 the IDE bit alone tells the kind; SRR and unused bits are ignored"
 abbrev pub isExtended : List ℕ → Bool
-isExtended s = isSet 3 (getD s 2 0)
+isExtended s = isSet 3 (byte s 3)
 
 -- "tag, identifier (2 or 4 bytes), length code", then the data
 abbrev pub dataFrom : List ℕ → ℕ
@@ -25,18 +25,18 @@ abbrev pub codeIn : ℕ → ℕ
 codeIn x = x % 16
 
 -- Table 2a: the identifier's two bytes and the length byte
-abbrev pub standardSent : ℕ → ℕ → ℕ → Header
-standardSent a b len = record { id = a * 2 ^ 3 + bits 7 5 b; extended = false; remote = isSet 4 b; code = codeIn len }
+abbrev pub standardHeader : ℕ → ℕ → ℕ → Header
+standardHeader a b len = record { id = a * 2 ^ 3 + bits 7 5 b; extended = false; remote = isSet 4 b; code = codeIn len }
 
 -- Table 2b: the identifier's four bytes and the length byte
-abbrev pub extendedSent : ℕ → ℕ → ℕ → ℕ → ℕ → Header
-extendedSent a b c d len = record { id = idFrom a b c d; extended = true; remote = isSet 0 d; code = codeIn len }
+abbrev pub extendedHeader : ℕ → ℕ → ℕ → ℕ → ℕ → Header
+extendedHeader a b c d len = record { id = idFrom a b c d; extended = true; remote = isSet 0 d; code = codeIn len }
 
 unfoldable pub headerSent : List ℕ → Header
 headerSent s =
     pick (isExtended s)
-    (extendedSent (getD s 1 0) (getD s 2 0) (getD s 3 0) (getD s 4 0) (getD s 5 0))
-    (standardSent (getD s 1 0) (getD s 2 0) (getD s 3 0))
+    (extendedHeader (byte s 2) (byte s 3) (byte s 4) (byte s 5) (byte s 6))
+    (standardHeader (byte s 2) (byte s 3) (byte s 4))
 
 -- "0x12 takes 4 to 12 bytes after it for a standard frame, 6 to 14 for an extended one", and at least the data bytes that the
 -- message has; bytes past those are ignored (000: "ignores data bytes greater than the DLC value").
@@ -44,7 +44,7 @@ unfoldable pub rightLength : List ℕ → Bool
 rightLength s = leb (dataFrom s + dataBytes (headerSent s)) (length s) && leb (length s) (dataFrom s + 8)
 
 abbrev pub messageIn : List ℕ → Message
-messageIn s = record { tag = getD s 0 0; header = headerSent s; bytes = dataOf (headerSent s) (drop (dataFrom s) s) }
+messageIn s = record { tag = byte s 1; header = headerSent s; bytes = dataOf (headerSent s) (drop (dataFrom s) s) }
 
 -- what a wrong length leaves in the message's place
 abbrev pub noMessage : Message

@@ -3,8 +3,9 @@
 ghost use mathlib.Core.Path.{_≡_};
 ghost use Prim.Native.Nat.{_≤_};
 ghost use lib.ListN.{length};
+ghost use Rattle.base.specs.Bit.{bits};
 ghost use Rattle.frame.specs.Length.{dataLength, dataBytes, possible, dataFits, dataOf};
-ghost use Rattle.frame.specs.Tables.{bits, idBits, idToSend, readId, compared};
+ghost use Rattle.frame.specs.Tables.{idBits, idToSend, readId, compared};
 ghost use Rattle.frame.specs.Received.{received};
 
 pub mod sent;
@@ -24,9 +25,23 @@ pub struct IdBytes {
     pub count: usize,
 }
 
+// How many identifiers there are of each kind.
+const STANDARD: u32 = 2048;
+
+const EXTENDED: u32 = 536870912;
+
+// What the lowest bit of each part of an identifier weighs.
+const ID21: u32 = 2097152;
+
+const ID18: u32 = 262144;
+
+const ID15: u32 = 32768;
+
+const ID7: u32 = 128;
+
 const DATA_LENGTH: [usize; 16] = [0, 1, 2, 3, 4, 5, 6, 7, 8, 8, 8, 8, 8, 8, 8, 8];
 
-// How many data bytes a length code means.
+// How many data bytes a length code means. No frame has a code above 15; the rule's eight is said of those too.
 pub fn data_length(code: u8) -> usize
     ensures { λ r. ⌜ r ≡ dataLength code ⌝ }
 {
@@ -52,8 +67,8 @@ pub fn possible(h: Header) -> bool
     let extended = h.extended;
     let id = h.id;
     if extended {
-        if id < 536870912 { h.code <= 15 } else { false }
-    } else if id < 2048 {
+        if id < EXTENDED { h.code <= 15 } else { false }
+    } else if id < STANDARD {
         h.code <= 15
     } else {
         false
@@ -85,9 +100,9 @@ fn id_bits(h: Header) -> u32
     let extended = h.extended;
     let id = h.id;
     if extended {
-        id % 536870912
+        id % EXTENDED
     } else {
-        id % 2048 * 262144
+        id % STANDARD * ID18
     }
 }
 
@@ -106,10 +121,10 @@ fn id_parts(h: Header) -> IdParts
 {
     let n = id_bits(h);
     IdParts {
-        id28: (n / 2097152 % 256) as u8,
-        id20: (n / 262144 % 8) as u8,
-        id17: (n / 32768 % 8) as u8,
-        id14: (n / 128 % 256) as u8,
+        id28: ((n >> 21) % 256) as u8,
+        id20: ((n >> 18) % 8) as u8,
+        id17: ((n >> 15) % 8) as u8,
+        id14: ((n >> 7) % 256) as u8,
         id6: (n % 128) as u8,
     }
 }

@@ -2,8 +2,12 @@
 ghost use mathlib.Core.Path.{_≡_};
 ghost use mathlib.Core.Bool.{true};
 ghost use lib.ListN.{getD};
-ghost use Rattle.frame.specs.Sent.{isExtended, dataFrom, standardSent, extendedSent, headerSent, rightLength, messageIn, readMessage};
+ghost use Rattle.frame.specs.Sent.{isExtended, dataFrom, standardHeader, extendedHeader, headerSent, rightLength, messageIn, readMessage};
 use crate::Header;
+use crate::ID7;
+use crate::ID15;
+use crate::ID18;
+use crate::ID21;
 
 pub struct Message {
     // Told again in the transmit history.
@@ -28,7 +32,7 @@ fn at(s: &[u8], i: usize) -> u8
 fn is_extended(s: &[u8]) -> bool
     ensures { λ r. ⌜ r ≡ isExtended (now (s .entry)) ⌝ }
 {
-    at(s, 2) / 8 % 2 == 1
+    (at(s, 2) >> 3) % 2 == 1
 }
 
 fn data_from(s: &[u8]) -> usize
@@ -38,25 +42,25 @@ fn data_from(s: &[u8]) -> usize
 }
 
 fn standard(a: u8, b: u8, length: u8) -> Header
-    ensures { λ r. ⌜ r ≡ standardSent a b length ⌝ }
+    ensures { λ r. ⌜ r ≡ standardHeader a b length ⌝ }
 {
     Header {
-        id: (a as u32) * 8 + (b / 32 % 8) as u32,
+        id: (a as u32) * 8 + ((b >> 5) % 8) as u32,
         extended: false,
-        remote: b / 16 % 2 == 1,
+        remote: (b >> 4) % 2 == 1,
         code: length % 16,
     }
 }
 
 fn extended(a: u8, b: u8, c: u8, d: u8, length: u8) -> Header
-    ensures { λ r. ⌜ r ≡ extendedSent a b c d length ⌝ }
+    ensures { λ r. ⌜ r ≡ extendedHeader a b c d length ⌝ }
 {
     Header {
-        id: (a as u32) * 2097152
-            + (b / 32 % 8) as u32 * 262144
-            + (b % 8) as u32 * 32768
-            + (c as u32) * 128
-            + (d / 2 % 128) as u32,
+        id: (a as u32) * ID21
+            + ((b >> 5) % 8) as u32 * ID18
+            + (b % 8) as u32 * ID15
+            + (c as u32) * ID7
+            + ((d >> 1) % 128) as u32,
         extended: true,
         remote: d % 2 == 1,
         code: length % 16,

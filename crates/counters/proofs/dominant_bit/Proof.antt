@@ -9,7 +9,7 @@ up-to-requires c κs = search needs
 
 returns : tie.Need-returns
 unfolding dominantBit
-returns c = cc
+returns c = rw (c .up-to .ensures)
 
 pub dominant-bit-spec : {M : Type 1} → statement M
 dominant-bit-spec = tie.close (tie.spec up-to-requires returns)

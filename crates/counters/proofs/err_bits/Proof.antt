@@ -36,7 +36,14 @@ add-result-2 c = search needs
 
 returns : tie.Need-returns
 unfolding errBits
-returns c = cc
+returns c =
+    rw (
+      c .before .before .before .before .flag .ensures .0,
+      c .before .before .flag2 .ensures .0,
+      c .before .before .before .txerrp .ensures,
+      c .flag3 .ensures .0,
+      c .before .rxerrp .ensures,
+    )
 
 pub err-bits-spec : {M : Type 1} → statement M
 err-bits-spec =

@@ -9,7 +9,7 @@ up-to-requires c κs = search needs
 
 returns : tie.Need-returns
 unfolding receiveError
-returns c = cc
+returns c = rw (c .up-to .ensures)
 
 pub receive-error-spec : {M : Type 1} → statement M
 receive-error-spec = tie.close (tie.spec up-to-requires returns)
