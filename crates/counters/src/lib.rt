@@ -2,7 +2,8 @@
 // move it, and what the registers show of it.
 ghost use mathlib.Core.Path.{_≡_};
 ghost use Prim.Native.Nat.{_+_, _-_, min};
-ghost use Rattle.counters.specs.Rules.{receiveError, dominantBit, goodFrame, transmitError, completed, elevenRecessive, writeRec, writeTec};
+ghost use Rattle.counters.specs.Rules.{receiveError, dominantBit, goodFrame, transmitError, completed};
+ghost use Rattle.counters.specs.Rules.{elevenRecessive, writeRec, writeTec};
 ghost use Rattle.counters.specs.Drawn.{warns, rxerrp, txerrp, errw, errp, errBits, tecShown, groupsShown};
 
 pub mod lent;

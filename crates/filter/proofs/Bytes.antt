@@ -129,7 +129,8 @@ module _ (j : ℕ) where
 
   -- byte j's eight places, after those of the bytes before it
   pub byte-more : (v f m : List ℕ) → agree (8 * j + 8) (placeOf v) (placeOf f) (countedOf m)
-      ≡ (agree (8 * j) (placeOf v) (placeOf f) (countedOf m) && agree 8 (byteOf (getD v j 0)) (byteOf (getD f j 0)) (byteOf (countedByte j (getD m j 0))))
+      ≡ (agree (8 * j) (placeOf v) (placeOf f) (countedOf m)
+      && agree 8 (byteOf (getD v j 0)) (byteOf (getD f j 0)) (byteOf (countedByte j (getD m j 0))))
   byte-more v f m =
       agree-more 8 (8 * j) (placeOf v) (placeOf f) (countedOf m)
       ∙ ap (λ (b : Bool). agree (8 * j) (placeOf v) (placeOf f) (countedOf m) && b)

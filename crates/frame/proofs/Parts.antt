@@ -4,25 +4,15 @@ use mathlib.Core.Bool.{Bool, true, false}
 use Prim.Native.Nat.{ℕ, _+_, _*_, _/_, _%_, _^_, _<_, _≤_}
 use native.Mathlib.Nat.{div-one, mod-eq-of-lt, mod-lt}
 use native.Mathlib.Omega.{arith}
-use borrow.Author.Tests.{eq-eqb, ne-eqb, ltb-true, leb-true}
-use lib.Dec.{eqb, leb, ltb, lit<}
+use borrow.Author.Tests.{ltb-true, leb-true}
+use lib.Dec.{leb, ltb, lit<}
 use lib.Pow.{mod-pow-add}
 use Rattle.base.specs.Bit.{bit, bits}
-use Rattle.base.specs.Pick.{pick, flag}
+use Rattle.base.specs.Pick.{pick}
 use Rattle.base.proofs.Booleans.{and-left, and-right}
 use Rattle.frame.specs.declared.Header.{Header}
 use Rattle.frame.specs.Length.{possible}
 use Rattle.frame.specs.Tables.{idBits, idFrom}
-
--- ---- flags
-
-pub flag-le : (b : Bool) → flag b ≤ 1
-flag-le true = omega arith
-flag-le false = omega arith
-
-pub flag-back : (b : Bool) (d : ℕ) → d ≡ flag b → eqb d 1 ≡ b
-flag-back true d e = eq-eqb d 1 e
-flag-back false d e = ne-eqb d 1 (λ one. omega arith)
 
 -- ---- the parts of ID28 to ID0
 

@@ -10,11 +10,12 @@ use lib.ListN.{length, take}
 use lib.Seq.{take-at, length-take-le}
 use Rattle.base.specs.Bit.{bits, isSet}
 use Rattle.base.specs.Pick.{pick, flag}
+use Rattle.base.proofs.Booleans.{flag-le, flag-back}
 use Rattle.frame.specs.declared.Header.{Header}
 use Rattle.frame.specs.Length.{possible, dataBytes, dataOf}
 use Rattle.frame.specs.Tables.{idBits, idFrom, readId}
 use Rattle.frame.specs.Received.{received, headerIn, timeIn, filterIn, dataIn}
-use Rattle.frame.proofs.Parts.{flag-le, flag-back, third-bit, last-bit, id-back, code-fits, id-bits-lt, id-bits-back, header-path}
+use Rattle.frame.proofs.Parts.{third-bit, last-bit, id-back, code-fits, id-bits-lt, id-bits-back, header-path}
 
 module _ (h : Header) (bytes : List ℕ) (time filhit : ℕ) where
   pub time-back : timeIn (received h bytes time filhit) ≡ time

@@ -10,11 +10,12 @@ use lib.Dec.{lit<, lit≤}
 use lib.ListN.{length, take, drop}
 use Rattle.base.specs.Bit.{bit, bits}
 use Rattle.base.specs.Pick.{pick, flag}
+use Rattle.base.proofs.Booleans.{flag-le, flag-back}
 use Rattle.frame.specs.declared.Header.{Header}
 use Rattle.frame.specs.Length.{possible, dataBytes, dataOf}
 use Rattle.frame.specs.Tables.{idBits, idToSend}
 use Rattle.frame.specs.Sent.{isExtended, dataFrom, headerSent, standardHeader, extendedHeader, rightLength, readMessage}
-use Rattle.frame.proofs.Parts.{flag-le, flag-back, third-bit, last-bit, id-back, code-fits, id-fits, id-bits-lt, id-bits-back, header-path}
+use Rattle.frame.proofs.Parts.{third-bit, last-bit, id-back, code-fits, id-fits, id-bits-lt, id-bits-back, header-path}
 
 -- "A message to send is tag, identifier (2 or 4 bytes), length code, data."
 abbrev pub written : ℕ → Header → List ℕ → List ℕ
@@ -32,7 +33,9 @@ module _ (tag id code : ℕ) (r : Bool) (payload : List ℕ) where
   unfolding idToSend headerSent
   extended-back ok =
       rw (flag-back true _ (third-bit n 1 1 (flag r) (lit≤ tt) (lit≤ tt) f≤1))
-      (header-path (extendedHeader (bits 28 21 n) (bits 20 18 n * 32 + 16 + 8 + bits 17 15 n) (bits 14 7 n) (bits 6 0 n * 2 + flag r) code) (header true)
+      (header-path
+      (extendedHeader (bits 28 21 n) (bits 20 18 n * 32 + 16 + 8 + bits 17 15 n) (bits 14 7 n) (bits 6 0 n * 2 + flag r) code)
+      (header true)
       (id-back n 1 1 (flag r) (lit≤ tt) (lit≤ tt) f≤1 (id-bits-lt (header true) ok) ∙ id-bits-back (header true) ok)
       refl
       (flag-back r _ (last-bit n 1 1 (flag r) (lit≤ tt) (lit≤ tt) f≤1))
@@ -107,14 +110,22 @@ module _ (tag : ℕ) (h : Header) (payload : List ℕ) where
 
   module _ (ok : possible h ≡ true) (enough : dataBytes h ≤ length payload) (room : length payload ≤ 8) where
     from : dataFrom (written tag h payload) ≡ pick (h .extended) 6 4
-    from = ap (λ (t : Bool). pick t 6 4) (sym (kind-of (written tag h payload)) ∙ ap (λ (x : Header). x .extended) (header-sent-back tag h payload ok))
+    from =
+        ap (λ (t : Bool). pick t 6 4)
+        (sym (kind-of (written tag h payload)) ∙ ap (λ (x : Header). x .extended) (header-sent-back tag h payload ok))
 
     right : rightLength (written tag h payload) ≡ true
     unfolding rightLength
     right =
-        rw (header-sent-back tag h payload ok, from, long, le-leb (pick (h .extended) 6 4 + dataBytes h) (pick (h .extended) 6 4 + length payload) (omega arith))
+        rw (
+          header-sent-back tag h payload ok,
+          from,
+          long,
+          le-leb (pick (h .extended) 6 4 + dataBytes h) (pick (h .extended) 6 4 + length payload) (omega arith),
+        )
         (le-leb (pick (h .extended) 6 4 + length payload) (pick (h .extended) 6 4 + 8) (omega arith))
 
-    pub message-back : readMessage (written tag h payload) ≡ record { fits = true; message = record { tag = tag; header = h; bytes = dataOf h payload } }
+    pub message-back : readMessage (written tag h payload)
+        ≡ record { fits = true; message = record { tag = tag; header = h; bytes = dataOf h payload } }
     unfolding readMessage
     message-back = rw (right, header-sent-back tag h payload ok, from, after)

@@ -2,7 +2,8 @@
 ghost use mathlib.Core.Path.{_≡_};
 ghost use mathlib.Core.Bool.{true};
 ghost use lib.ListN.{getD};
-ghost use Rattle.frame.specs.Sent.{isExtended, dataFrom, standardHeader, extendedHeader, headerSent, rightLength, messageIn, readMessage};
+ghost use Rattle.frame.specs.Sent.{isExtended, dataFrom, standardHeader, extendedHeader, headerSent};
+ghost use Rattle.frame.specs.Sent.{rightLength, messageIn, readMessage};
 use crate::Header;
 use crate::ID7;
 use crate::ID15;

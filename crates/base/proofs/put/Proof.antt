@@ -36,7 +36,8 @@ loop-again : tie.Need-loop-again Inv-loop μ-loop
 loop-again c =
     let a = c .before .before .before .before .args in
     let v = c .before .before .loop .inv in
-    (omega arith, simp length-set (v .1), rw (v .2) (copy-more (a .buffer .now) (a .reply .now) (c .before .before .loop .i) 0 (omega arith) (omega arith)))
+    let i = c .before .before .loop .i in
+    (omega arith, simp length-set (v .1), rw (v .2) (copy-more (a .buffer .now) (a .reply .now) i 0 (omega arith) (omega arith)))
 
 same-length : tie.Need-same-length Inv-loop μ-loop
 same-length c = search needs

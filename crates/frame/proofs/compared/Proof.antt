@@ -58,7 +58,16 @@ unfolding compared
 returns c =
     let b = c .before .before .before .before .before .before in
     let p = b .before .id-parts .ensures in
-    rw (p .0, p .1, p .2, p .3, p .4, b .flag .ensures .0, c .before .before .before .before .before .flag2 .ensures .0, c .before .before .before .data-of .ensures)
+    rw (
+      p .0,
+      p .1,
+      p .2,
+      p .3,
+      p .4,
+      b .flag .ensures .0,
+      c .before .before .before .before .before .flag2 .ensures .0,
+      c .before .before .before .data-of .ensures,
+    )
 
 pub compared-spec : {M : Type 1} → statement M
 compared-spec =

@@ -22,7 +22,9 @@ put-requires c κs = search needs
 returns : tie.Need-returns
 returns c =
     let a = c .before .before .before .before .before .before .args in
-    c .before .put .ensures ∙ rw (c .before .before .before .before .data-bytes .ensures) (data-put (a .h) (a .bytes .now) (c .before .before .before .before .before .before .pre))
+    c .before .put .ensures
+    ∙ rw (c .before .before .before .before .data-bytes .ensures)
+    (data-put (a .h) (a .bytes .now) (c .before .before .before .before .before .before .pre))
 
 pub data-of-spec : {M : Type 1} → statement M
 data-of-spec =

@@ -42,7 +42,8 @@ returns : tie.Need-returns
 unfolding idToSend
 returns c =
     let p = c .before .before .before .before .before .id-parts .ensures in
-    pick-yes _ _ _ _ _ (c .before .before .before .if1 .taken) (rw (p .0, p .1, p .2, p .3, p .4, c .before .before .before .before .flag .ensures .0))
+    pick-yes _ _ _ _ _ (c .before .before .before .if1 .taken)
+    (rw (p .0, p .1, p .2, p .3, p .4, c .before .before .before .before .flag .ensures .0))
 
 returns-2 : tie.Need-returns-2
 unfolding idToSend

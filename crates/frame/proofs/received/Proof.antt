@@ -75,8 +75,15 @@ returns c =
     let a = c .before .before .before .before .before .before .before .before .args in
     let eight : length (a .t2) ≡ 8 = search needs in
     let d : c .before .put .last .1 .0 ≡ dataOf (a .h) (a .t2) =
-    c .before .put .ensures ∙ rw (c .before .before .before .before .before .before .data-bytes .ensures) (data-put (a .h) (a .t2) (omega (arith, data-bytes-le (a .h)))) in
-    rw (d, append-nil (dataOf (a .h) (a .t2)), c .before .before .before .before .before .before .before .id-as-read .ensures, c .before .before .before .before .before .flag .ensures .0)
+    c .before .put .ensures
+    ∙ rw (c .before .before .before .before .before .before .data-bytes .ensures)
+    (data-put (a .h) (a .t2) (omega (arith, data-bytes-le (a .h)))) in
+    rw (
+      d,
+      append-nil (dataOf (a .h) (a .t2)),
+      c .before .before .before .before .before .before .before .id-as-read .ensures,
+      c .before .before .before .before .before .flag .ensures .0,
+    )
 
 pub received-spec : {M : Type 1} → statement M
 received-spec =

@@ -44,7 +44,14 @@ unfolding headerSent
 returns c =
     let b = c .before .before .before .before .before in
     pick-yes _ _ _ _ _ (sym (b .before .before .is-extended .ensures) ∙ b .before .if1 .taken)
-    (rw (c .extended .ensures, b .at .ensures, c .before .before .before .before .at2 .ensures, c .before .before .before .at3 .ensures, c .before .before .at4 .ensures, c .before .at5 .ensures))
+    (rw (
+      c .extended .ensures,
+      b .at .ensures,
+      c .before .before .before .before .at2 .ensures,
+      c .before .before .before .at3 .ensures,
+      c .before .before .at4 .ensures,
+      c .before .at5 .ensures,
+    ))
 
 returns-2 : tie.Need-returns-2
 unfolding headerSent

@@ -38,7 +38,13 @@ data-of-requires c κs =
 returns : tie.Need-returns
 returns c =
     let s = c .before .before .before .before .before .before .args .s .now in
-    rw (c .data-of .ensures, part-to-end s (c .before .before .data-from .result), c .before .before .before .header-sent .ensures, c .before .before .data-from .ensures, c .before .before .before .before .at .ensures)
+    rw (
+      c .data-of .ensures,
+      part-to-end s (c .before .before .data-from .result),
+      c .before .before .before .header-sent .ensures,
+      c .before .before .data-from .ensures,
+      c .before .before .before .before .at .ensures,
+    )
 
 pub message-in-spec : {M : Type 1} → statement M
 message-in-spec =
