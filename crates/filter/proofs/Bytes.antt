@@ -16,7 +16,7 @@ use lib.Pow.{shr-lt}
 use Rattle.base.specs.Bit.{bit}
 use Rattle.base.specs.Pick.{pick}
 use Rattle.base.proofs.Bits.{bit-zero, bit-suc}
-use Rattle.filter.specs.Match.{agree, byteOf, placeOf, countedOf}
+use Rattle.filter.specs.Match.{agree, byteOf, placeOf, uncounted, countedOf}
 use Rattle.filter.proofs.Agree.{agree-alike, agree-more}
 
 -- ---- one digit
@@ -113,16 +113,16 @@ module _ (j : ℕ) where
     in-fourth : (last : Bool) → eqb k 7 ≡ last → j ≡ 3 → countedOf mask (8 * j + k) ≡ byteOf (x / 2 * 2) k
     in-fourth true e h =
         let seventh : k ≡ 7 = eqb-true k 7 e in
-        rw (eq-eqb (8 * j + k) 31 (omega arith), seventh) (sym (bit-zero (x / 2 * 2) ∙ omega arith))
+        rw (eq-eqb (8 * j + k) uncounted (omega arith), seventh) (sym (bit-zero (x / 2 * 2) ∙ omega arith))
     in-fourth false e h =
         let other : k ≡ 7 → ⊥ = eqb-false k 7 e in
-        rw (ne-eqb (8 * j + k) 31 (λ q. omega arith)) (place mask k l ∙ sym (above x k (omega arith)))
+        rw (ne-eqb (8 * j + k) uncounted (λ q. omega arith)) (place mask k l ∙ sym (above x k (omega arith)))
 
     counted-place′ : (fourth : Bool) → eqb j 3 ≡ fourth → countedOf mask (8 * j + k) ≡ byteOf (pick fourth (x / 2 * 2) x) k
     counted-place′ true e = in-fourth (eqb k 7) refl (eqb-true j 3 e)
     counted-place′ false e =
         let other : j ≡ 3 → ⊥ = eqb-false j 3 e in
-        rw (ne-eqb (8 * j + k) 31 (λ q. omega arith)) (place mask k l)
+        rw (ne-eqb (8 * j + k) uncounted (λ q. omega arith)) (place mask k l)
 
     counted-place : countedOf mask (8 * j + k) ≡ byteOf (countedByte j x) k
     counted-place = counted-place′ (eqb j 3) refl

@@ -1,1 +1,1 @@
-// The law for a struct behind a `&mut`, in specs/: a theorem over functions, with no code of its own.
+// The law for a struct behind a `&mut`: what rule and thin function state in specs/, the law in proofs/.

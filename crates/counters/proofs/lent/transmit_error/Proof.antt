@@ -1,5 +1,5 @@
 -- `counters::lent::transmit_error` is the rule `transmit_error`, behind a reference. Assumes nothing.
-use Rattle.thin.specs.Thin.{thin-spec}
+use Rattle.thin.proofs.Thin.{thin-spec}
 use Rattle.counters.specs.Rules.{transmitError}
 use Rattle.counters.proofs.Counters.{the-type}
 use Rattle.counters.proofs.Counters.Laws.{the-laws}

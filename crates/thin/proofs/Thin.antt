@@ -12,7 +12,7 @@ use denote.Struct.Laws as LL
 use denote.Triple.Statement.{Triple}
 use denote.Triple.Table.{entered, cited}
 use Rattle.thin.specs.Shape.{Rule, Thin, thin}
-use Rattle.thin.specs.Walk.{meets}
+use Rattle.thin.proofs.Walk.{meets}
 
 module _ (T : Declared) (L : LL.Laws T) (f : T .D → T .D) {M : Type 1} (𝓤 : URA M) (H : Heap 𝓤) (𝓜 : Model 𝓤 H) (𝓖 : GhostRules 𝓤 H) (𝓡 : Running 𝓤 H 𝓜) where
   pub thin-spec : (self rule : Name) (env : Env) → Closed 𝓤 H (tables 𝓤 H 𝓜 𝓡 env .C) (tables 𝓤 H 𝓜 𝓡 env .Λ) self (thin T rule)
