@@ -5,7 +5,7 @@ use Prim.Native.Nat.{ℕ, _≤_}
 use native.Mathlib.Omega.{arith}
 use borrow.Author.Tests.{eq-eqb, ne-eqb}
 use lib.Dec.{eqb}
-use Rattle.base.specs.Pick.{flag}
+use Rattle.base.specs.Pick.{pick, flag}
 
 pub and-left : (a b : Bool) → (a && b) ≡ true → a ≡ true
 and-left true b e = refl
@@ -23,3 +23,8 @@ flag-le false = omega arith
 pub flag-back : (b : Bool) (d : ℕ) → d ≡ flag b → eqb d 1 ≡ b
 flag-back true d e = eq-eqb d 1 e
 flag-back false d e = ne-eqb d 1 (λ one. omega arith)
+
+-- a bound that both branches keep
+pub pick-bound : (t : Bool) (x y n : ℕ) → x ≤ n → y ≤ n → pick t x y ≤ n
+pick-bound true x y n p q = p
+pick-bound false x y n p q = q

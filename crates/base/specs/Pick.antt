@@ -1,7 +1,7 @@
 -- `pick t x y` is "x if t, else y": how specs/ write an `if`. The kit calls it `cond`.
 -- The rules turn a goal `r ≡ pick t x y` into the branch that a proof stands in; `search picks` applies them down to the leaf.
 use mathlib.Core.Path.{_≡_}
-use mathlib.Core.Bool.{Bool, true, false}
+use mathlib.Core.Bool.{Bool, true, false, _&&_, _||_}
 use Prim.Native.Nat.{ℕ, _<_, _≤_}
 use borrow.Author.Tests.{lt-ltb, le-ltb, le-leb, lt-leb, eq-eqb, ne-eqb}
 use lib.Dec.{ltb, leb, eqb}
@@ -36,3 +36,18 @@ pub pick-ne : (A : Type 0) (a b : ℕ) (r x y : A) → (a ≡ b → ⊥) → r �
 pick-ne A a b r x y h p = pick-no A (eqb a b) r x y (ne-eqb a b h) p
 
 pub ruleset picks = (pick-yes, pick-no, pick-lt, pick-ge, pick-le, pick-gt, pick-eq, pick-ne)
+
+-- The same for a yes-or-no rule, which specs/ write with `&&` and `||`; `search judges` goes down to the part that decides.
+pub and-yes : (t r u : Bool) → t ≡ true → r ≡ u → r ≡ (t && u)
+and-yes t r u e p = rw e p
+
+pub and-no : (t r u : Bool) → t ≡ false → r ≡ false → r ≡ (t && u)
+and-no t r u e p = rw e p
+
+pub or-yes : (t r u : Bool) → t ≡ true → r ≡ true → r ≡ (t || u)
+or-yes t r u e p = rw e p
+
+pub or-no : (t r u : Bool) → t ≡ false → r ≡ u → r ≡ (t || u)
+or-no t r u e p = rw e p
+
+pub ruleset judges = (and-yes, and-no, or-yes, or-no, lt-ltb, le-ltb, le-leb, lt-leb, eq-eqb, ne-eqb)

@@ -1,0 +1,16 @@
+-- TSTAT has two bits. Assumes nothing.
+use Prim.Native.Nat.{_≤_}
+use native.Mathlib.Omega.{arith}
+use lib.Dec.{eqb}
+use Rattle.base.specs.Pick.{pick}
+use Rattle.base.proofs.Booleans.{pick-bound}
+use Rattle.chip.specs.declared.Device.{Device}
+use Rattle.chip.specs.Drawn.{tstat}
+use Rattle.chip.specs.State.{enabled, idle}
+
+pub tstat-le : (d : Device) → tstat d ≤ 3
+unfolding tstat
+tstat-le d =
+    pick-bound (eqb (d .sending) idle) _ 3 3
+    (pick-bound (enabled d) _ 0 3 (pick-bound (eqb (d .tx .count) 0) 1 2 3 (omega arith) (omega arith)) (omega arith))
+    (omega arith)

@@ -1,0 +1,4 @@
+pub mod Parts
+pub mod State
+pub mod Proper
+pub mod Drawn

@@ -1,0 +1,310 @@
+// The HI-3110's state, by value: what both doors read and change, and what its registers and pins show of it.
+ghost use mathlib.Core.Path.{_≡_};
+ghost use mathlib.Core.Bool.{not};
+ghost use Prim.Native.Nat.{_<_};
+ghost use lib.Bits.{bitAnd};
+ghost use lib.Dec.{eqb};
+ghost use Rattle.base.specs.Bit.{isSet};
+ghost use Rattle.chip.specs.State.{fresh, modeOf, enabled, bank};
+ghost use Rattle.chip.specs.Proper.{registersInRange, sendingInRange, actingInRange, proper};
+ghost use Rattle.chip.specs.Drawn.{statf, err, tstat, messtat, int, stat, gp};
+use counters::Counters;
+use fifo::Fifo;
+use fifo::Message;
+
+// The modes that can act.
+pub const NORMAL: u8 = 0;
+
+pub const LOOPBACK: u8 = 1;
+
+pub const MONITOR: u8 = 2;
+
+pub const SLEEP: u8 = 3;
+
+pub const INITIALIZATION: u8 = 4;
+
+// Whether a message runs, and where it stands.
+pub const IDLE: u8 = 0;
+
+// The running message is the first in the transmit FIFO.
+pub const FIRST: u8 = 1;
+
+// 0x54 took the running message out of the FIFO.
+pub const ALONE: u8 = 2;
+
+// A filter's or a mask's six bytes.
+pub struct Pattern {
+    pub bytes: [u8; 6],
+}
+
+pub struct Registers {
+    pub ctrl0: u8,
+    pub ctrl1: u8,
+    pub btr0: u8,
+    pub btr1: u8,
+    pub inte: u8,
+    pub statfe: u8,
+    pub gpine: u8,
+    pub intf: u8,
+    // ERR's bits 4 to 0; the upper three are drawn from the counters.
+    pub errs: u8,
+    // MESSTAT's FILHIT3..0 and MTAG1..0.
+    pub filhit: u8,
+    pub mtag: u8,
+}
+
+pub struct Device {
+    pub regs: Registers,
+    pub counters: Counters,
+    pub filters: [Pattern; 8],
+    pub masks: [Pattern; 8],
+    pub rx: Fifo,
+    // The temporary receive buffer.
+    pub temp: Message,
+    pub tx: Fifo,
+    // The transmit buffer: a copy of the message that runs.
+    pub buffer: Message,
+    pub sending: u8,
+    pub history: Fifo,
+    pub time: u16,
+    pub txenpin: bool,
+    // The mode that acts; CTRL0 differs from it while a sleep waits.
+    pub acting: u8,
+}
+
+// The device after power-up.
+pub fn fresh() -> Device
+    ensures { λ r. ⌜ r ≡ fresh ⌝ }
+{
+    let zeros = Pattern { bytes: [0; 6] };
+    let bank = [zeros; 8];
+    let none = fifo::empty();
+    let nothing = Message { bytes: [0; 16] };
+    let regs = Registers {
+        ctrl0: 0x80,
+        ctrl1: 0,
+        btr0: 0,
+        btr1: 0,
+        inte: 0,
+        statfe: 0,
+        gpine: 0,
+        intf: 0,
+        errs: 0,
+        filhit: 0,
+        mtag: 0,
+    };
+    let counters = Counters {
+        rec: 0,
+        tec: 0,
+        busoff: false,
+        groups: 0,
+    };
+    Device {
+        regs,
+        counters,
+        filters: bank,
+        masks: bank,
+        rx: none,
+        temp: nothing,
+        tx: none,
+        buffer: nothing,
+        sending: IDLE,
+        history: none,
+        time: 0,
+        txenpin: false,
+        acting: INITIALIZATION,
+    }
+}
+
+// The mode that CTRL0's MODE bits name.
+pub fn mode_of(ctrl0: u8) -> u8
+    ensures { λ r. ⌜ r ≡ modeOf ctrl0 ⌝ }
+{
+    if ctrl0 < 0x80 { ctrl0 / 32 } else { INITIALIZATION }
+}
+
+// Whether a message may be begun, for all that the host and the TXEN pin say.
+pub fn enabled(d: Device) -> bool
+    ensures { λ r. ⌜ r ≡ enabled d ⌝ }
+{
+    let ctrl1 = d.regs.ctrl1;
+    let pin = d.txenpin;
+    if (ctrl1 >> 7) % 2 == 1 {
+        true
+    } else if (ctrl1 >> 6) % 2 == 1 {
+        true
+    } else {
+        pin
+    }
+}
+
+// Filters or masks as the match takes them.
+pub fn bank(patterns: [Pattern; 8]) -> [[u8; 6]; 8]
+    ensures { λ r. ⌜ r ≡ bank patterns ⌝ }
+{
+    let p0 = patterns[0];
+    let p1 = patterns[1];
+    let p2 = patterns[2];
+    let p3 = patterns[3];
+    let p4 = patterns[4];
+    let p5 = patterns[5];
+    let p6 = patterns[6];
+    let p7 = patterns[7];
+    let b0 = p0.bytes;
+    let b1 = p1.bytes;
+    let b2 = p2.bytes;
+    let b3 = p3.bytes;
+    let b4 = p4.bytes;
+    let b5 = p5.bytes;
+    let b6 = p6.bytes;
+    let b7 = p7.bytes;
+    [b0, b1, b2, b3, b4, b5, b6, b7]
+}
+
+fn registers_in_range(r: Registers) -> bool
+    ensures { λ r'. ⌜ r' ≡ registersInRange r ⌝ }
+{
+    let filhit = r.filhit;
+    if r.errs <= 31 {
+        if r.mtag <= 3 {
+            if filhit == 0 {
+                true
+            } else if 8 <= filhit {
+                filhit <= 15
+            } else {
+                false
+            }
+        } else {
+            false
+        }
+    } else {
+        false
+    }
+}
+
+fn sending_in_range(d: Device) -> bool
+    ensures { λ r. ⌜ r ≡ sendingInRange d ⌝ }
+{
+    let sending = d.sending;
+    let waiting = d.tx.count;
+    if sending == FIRST { 1 <= waiting } else { sending <= 2 }
+}
+
+fn acting_in_range(d: Device) -> bool
+    ensures { λ r. ⌜ r ≡ actingInRange d ⌝ }
+{
+    let acting = d.acting;
+    let named = mode_of(d.regs.ctrl0);
+    if named == SLEEP { acting <= 4 } else { acting == named }
+}
+
+// Whether every count, place and field is one that the chip can have: a device of another kind is refused with 1.
+pub fn proper(d: Device) -> bool
+    ensures { λ r. ⌜ r ≡ proper d ⌝ }
+{
+    let rx = d.rx;
+    let tx = d.tx;
+    let history = d.history;
+    let regs = d.regs;
+    let groups = d.counters.groups;
+    if fifo::in_range(rx) {
+        if fifo::in_range(tx) {
+            if fifo::in_range(history) {
+                if registers_in_range(regs) {
+                    if groups <= 128 {
+                        if sending_in_range(d) {
+                            return acting_in_range(d);
+                        }
+                    }
+                }
+            }
+        }
+    }
+    false
+}
+
+// The status flag register, drawn anew at each read.
+pub fn statf(d: Device) -> u8
+    ensures { λ r. ⌜ r ≡ statf d ⌝ }
+{
+    let c = d.counters;
+    base::flag(d.tx.count == 0) * 128
+        + base::flag(d.tx.count == 8) * 64
+        + base::flag(d.history.count == 8) * 32
+        + base::flag(counters::errw(c)) * 16
+        + base::flag(counters::errp(c)) * 8
+        + base::flag(c.busoff) * 4
+        + base::flag(d.rx.count == 0) * 2
+        + base::flag(d.rx.count == 8)
+}
+
+// The error register.
+pub fn err(d: Device) -> u8
+    ensures { λ r. ⌜ r ≡ err d ⌝ }
+{
+    let c = d.counters;
+    counters::err_bits(c) + d.regs.errs % 32
+}
+
+fn tstat(d: Device) -> u8
+    ensures { λ r. ⌜ r ≡ tstat d ⌝ }
+{
+    let sending = d.sending;
+    let waiting = d.tx.count;
+    if sending == IDLE {
+        if enabled(d) {
+            if waiting == 0 { 1 } else { 2 }
+        } else {
+            0
+        }
+    } else {
+        3
+    }
+}
+
+// The message status register.
+pub fn messtat(d: Device) -> u8
+    ensures { λ r. ⌜ r ≡ messtat d ⌝ }
+{
+    d.regs.filhit % 16 * 16 + d.regs.mtag % 4 * 4 + tstat(d)
+}
+
+// Whether two bytes share a set bit.
+fn share(a: u8, b: u8) -> bool
+    ensures { λ r. ⌜ r ≡ not (eqb (bitAnd a b) 0) ⌝ }
+{
+    a & b != 0
+}
+
+fn is_set(i: u8, x: u8) -> bool
+    requires { ⌜ i < 8 ⌝ }
+    ensures { λ r. ⌜ r ≡ isSet i x ⌝ }
+{
+    (x >> i) % 2 == 1
+}
+
+// The INT pin.
+pub fn int(d: Device) -> bool
+    ensures { λ r. ⌜ r ≡ int d ⌝ }
+{
+    share(d.regs.intf, d.regs.inte)
+}
+
+// The STAT pin.
+pub fn stat(d: Device) -> bool
+    ensures { λ r. ⌜ r ≡ stat d ⌝ }
+{
+    share(statf(d), d.regs.statfe)
+}
+
+// A general purpose pin, for the half of GPINE that picks its flag.
+pub fn gp(d: Device, half: u8) -> bool
+    ensures { λ r. ⌜ r ≡ gp d half ⌝ }
+{
+    let flag = half % 16;
+    if flag < 8 {
+        is_set(flag, d.regs.intf)
+    } else {
+        is_set(flag - 8, statf(d))
+    }
+}

@@ -1,0 +1,10 @@
+-- What a caller who adds to ERR's upper bits has to know. Assumes nothing.
+use Prim.Native.Nat.{_≤_}
+use native.Mathlib.Omega.{arith}
+use Rattle.base.proofs.Booleans.{flag-le}
+use Rattle.counters.specs.declared.Counters.{Counters}
+use Rattle.counters.specs.Drawn.{rxerrp, txerrp, errBits}
+
+pub err-bits-le : (c : Counters) → errBits c ≤ 224
+unfolding errBits
+err-bits-le c = omega (arith, flag-le (c .busoff), flag-le (txerrp c), flag-le (rxerrp c))

@@ -1,0 +1,56 @@
+-- A queue of up to eight messages, in a ring of eight places (01: "eight messages wait", "eight entries, a ninth is not stored").
+use mathlib.Core.Bool.{Bool, _&&_}
+use mathlib.Core.List.{List, []}
+use Prim.Native.Nat.{ℕ, _+_, _-_, _%_}
+use lib.Dec.{eqb, leb, ltb}
+use lib.ListN.{getD, set, replicate}
+use Rattle.base.specs.Pick.{pick}
+use Rattle.base.proofs.Lists.{tabulate}
+use Rattle.fifo.specs.declared.Fifo.{Fifo}
+use Rattle.fifo.specs.declared.Message.{Message}
+
+-- the message that an empty place holds
+abbrev pub none : Message
+none = record { bytes = replicate 16 0 }
+
+unfoldable pub empty : Fifo
+empty = record { items = replicate 8 none; first = 0; count = 0 }
+
+-- what stands past the eighth place, which no queue has
+abbrev pub absent : Message
+absent = record { bytes = [] }
+
+-- the place k steps behind the oldest message
+abbrev pub place : Fifo → ℕ → ℕ
+place q k = (q .first + k) % 8
+
+-- What waits, oldest first.
+abbrev pub waiting : Fifo → List Message
+waiting q = tabulate (λ k. getD (q .items) (place q k) absent) 0 (q .count)
+
+-- "eight messages wait"
+abbrev pub full : Fifo → Bool
+full q = leb 8 (q .count)
+
+abbrev pub isEmpty : Fifo → Bool
+isEmpty q = eqb (q .count) 0
+
+-- A message comes last; where eight wait, nothing is stored.
+unfoldable pub put : Fifo → Message → Fifo
+put q m =
+    pick (ltb (q .count) 8)
+    (record { items = set (q .items) (place q (q .count)) m; first = q .first; count = q .count + 1 })
+    q
+
+-- The oldest is taken off.
+unfoldable pub take : Fifo → Fifo
+take q =
+    pick (eqb (q .count) 0) q
+    (record { items = q .items; first = place q 1; count = q .count - 1 })
+
+-- The oldest.
+unfoldable pub next : Fifo → Message
+next q = getD (q .items) (q .first % 8) absent
+
+unfoldable pub inRange : Fifo → Bool
+inRange q = ltb (q .first) 8 && leb (q .count) 8

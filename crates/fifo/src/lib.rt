@@ -1,0 +1,74 @@
+// A queue of up to eight messages. The receive FIFO, the transmit FIFO and the transmit history are each one.
+ghost use mathlib.Core.Path.{_≡_};
+ghost use Rattle.fifo.specs.Queue.{empty, put, take, next, inRange};
+
+// Sixteen bytes, as 000's Table 5 lays out a message; in a message to send, byte 1 is its tag.
+pub struct Message {
+    pub bytes: [u8; 16],
+}
+
+pub struct Fifo {
+    pub items: [Message; 8],
+    // The place of the oldest message; the others follow it, the first place after the last.
+    pub first: u8,
+    pub count: u8,
+}
+
+pub fn empty() -> Fifo
+    ensures { λ r. ⌜ r ≡ empty ⌝ }
+{
+    let none = Message { bytes: [0; 16] };
+    Fifo {
+        items: [none; 8],
+        first: 0,
+        count: 0,
+    }
+}
+
+// The message comes last. A ninth is not stored.
+pub fn put(q: Fifo, m: Message) -> Fifo
+    ensures { λ r. ⌜ r ≡ put q m ⌝ }
+{
+    let count = q.count;
+    if count < 8 {
+        let place = (q.first as usize + count as usize) % 8;
+        let mut p = q;
+        p.items[place] = m;
+        p.count = count + 1;
+        p
+    } else {
+        q
+    }
+}
+
+// Without the oldest message.
+pub fn take(q: Fifo) -> Fifo
+    ensures { λ r. ⌜ r ≡ take q ⌝ }
+{
+    let count = q.count;
+    if count == 0 {
+        q
+    } else {
+        let first = (q.first as usize + 1) % 8;
+        Fifo {
+            first: first as u8,
+            count: count - 1,
+            ..q
+        }
+    }
+}
+
+// The oldest message.
+pub fn next(q: Fifo) -> Message
+    ensures { λ r. ⌜ r ≡ next q ⌝ }
+{
+    let place = (q.first % 8) as usize;
+    q.items[place]
+}
+
+// Whether the count and the place are ones that a queue of eight can have.
+pub fn in_range(q: Fifo) -> bool
+    ensures { λ r. ⌜ r ≡ inRange q ⌝ }
+{
+    if q.first < 8 { q.count <= 8 } else { false }
+}
