@@ -1,7 +1,7 @@
 -- `pick t x y` is "x if t, else y": how specs/ write an `if`. The kit calls it `cond`.
 -- The rules turn a goal `r ≡ pick t x y` into the branch that a proof stands in; `search picks` applies them down to the leaf.
 use mathlib.Core.Path.{_≡_}
-use mathlib.Core.Bool.{Bool, true, false, _&&_, _||_}
+use mathlib.Core.Bool.{Bool, true, false, not, _&&_, _||_}
 use Prim.Native.Nat.{ℕ, _<_, _≤_}
 use borrow.Author.Tests.{lt-ltb, le-ltb, le-leb, lt-leb, eq-eqb, ne-eqb}
 use lib.Dec.{ltb, leb, eqb}
@@ -50,4 +50,10 @@ or-yes t r u e p = rw e p
 pub or-no : (t r u : Bool) → t ≡ false → r ≡ u → r ≡ (t || u)
 or-no t r u e p = rw e p
 
-pub ruleset judges = (and-yes, and-no, or-yes, or-no, lt-ltb, le-ltb, le-leb, lt-leb, eq-eqb, ne-eqb)
+pub not-yes : (t : Bool) → t ≡ false → not t ≡ true
+not-yes t e = rw e
+
+pub not-no : (t : Bool) → t ≡ true → not t ≡ false
+not-no t e = rw e
+
+pub ruleset judges = (and-yes, and-no, or-yes, or-no, not-yes, not-no, lt-ltb, le-ltb, le-leb, lt-leb, eq-eqb, ne-eqb)

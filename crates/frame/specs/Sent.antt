@@ -1,6 +1,6 @@
 -- The message that 0x12 brings, after the command byte (01, Transfers; 000, Table 2).
 use mathlib.Core.Bool.{Bool, true, false, _&&_}
-use mathlib.Core.List.{List}
+use mathlib.Core.List.{List, _∷_}
 use Prim.Native.Nat.{ℕ, _+_, _*_, _%_, _^_}
 use lib.Dec.{leb}
 use lib.ListN.{length, drop, replicate}
@@ -10,6 +10,7 @@ use Rattle.frame.specs.declared.Header.{Header}
 use Rattle.frame.specs.declared.sent.Message.{Message}
 use Rattle.frame.specs.declared.sent.Reading.{Reading}
 use Rattle.frame.specs.Length.{dataBytes, dataOf}
+use Rattle.frame.specs.Received.{received}
 use Rattle.frame.specs.Tables.{idFrom}
 
 -- "in 0x12 the IDE bit alone tells the kind; SRR and unused bits are ignored"
@@ -55,3 +56,7 @@ readMessage s =
     pick (rightLength s)
     (record { fits = true; message = messageIn s })
     (record { fits = false; message = noMessage })
+
+-- As the transmit FIFO keeps it, in Table 5's layout: the tag for byte 1, no time in bytes 2 and 3, then what a receiver would read.
+unfoldable pub stored : Message → List ℕ
+stored m = m .tag ∷ drop 1 (received (m .header) (m .bytes) 0 0)

@@ -5,8 +5,8 @@ ghost use Prim.Native.Nat.{_≤_};
 ghost use lib.ListN.{length};
 ghost use Rattle.base.specs.Bit.{bits};
 ghost use Rattle.frame.specs.Length.{dataLength, dataBytes, possible, dataFits, dataOf};
-ghost use Rattle.frame.specs.Tables.{idBits, idToSend, readId, compared};
-ghost use Rattle.frame.specs.Received.{received};
+ghost use Rattle.frame.specs.Tables.{idBits, idToSend, readId, compared, idFrom};
+ghost use Rattle.frame.specs.Received.{received, headerIn};
 
 pub mod sent;
 
@@ -214,4 +214,40 @@ pub fn received(h: Header, payload: [u8; 8], time: u16, filhit: u8) -> [u8; 16]
     ];
     base::put(&payload[..n], &mut m[8..]);
     m
+}
+
+// ID28 to ID0 from their four bytes.
+fn id_from(a: u8, b: u8, c: u8, d: u8) -> u32
+    ensures { λ r. ⌜ r ≡ idFrom a b c d ⌝ }
+{
+    (a as u32) * ID21
+        + ((b >> 5) % 8) as u32 * ID18
+        + (b % 8) as u32 * ID15
+        + (c as u32) * ID7
+        + ((d >> 1) % 128) as u32
+}
+
+// The header read back from a message's bytes.
+pub fn header_in(m: [u8; 16]) -> Header
+    ensures { λ r. ⌜ r ≡ headerIn m ⌝ }
+{
+    let id = id_from(m[3], m[4], m[5], m[6]);
+    let extended = (m[4] >> 3) % 2 == 1;
+    let remote = m[6] % 2 == 1;
+    let code = m[7];
+    if extended {
+        Header {
+            id,
+            extended: true,
+            remote,
+            code,
+        }
+    } else {
+        Header {
+            id: id / ID18,
+            extended: false,
+            remote,
+            code,
+        }
+    }
 }

@@ -3,12 +3,8 @@ ghost use mathlib.Core.Path.{_≡_};
 ghost use mathlib.Core.Bool.{true};
 ghost use lib.ListN.{getD};
 ghost use Rattle.frame.specs.Sent.{isExtended, dataFrom, standardHeader, extendedHeader, headerSent};
-ghost use Rattle.frame.specs.Sent.{rightLength, messageIn, readMessage};
+ghost use Rattle.frame.specs.Sent.{rightLength, messageIn, readMessage, stored};
 use crate::Header;
-use crate::ID7;
-use crate::ID15;
-use crate::ID18;
-use crate::ID21;
 
 pub struct Message {
     // Told again in the transmit history.
@@ -57,11 +53,7 @@ fn extended(a: u8, b: u8, c: u8, d: u8, length: u8) -> Header
     ensures { λ r. ⌜ r ≡ extendedHeader a b c d length ⌝ }
 {
     Header {
-        id: (a as u32) * ID21
-            + ((b >> 5) % 8) as u32 * ID18
-            + (b % 8) as u32 * ID15
-            + (c as u32) * ID7
-            + ((d >> 1) % 128) as u32,
+        id: crate::id_from(a, b, c, d),
         extended: true,
         remote: d % 2 == 1,
         code: length % 16,
@@ -128,4 +120,15 @@ pub fn read_message(s: &[u8]) -> Reading
             message,
         }
     }
+}
+
+// A message to send as the transmit FIFO keeps it: Table 5's layout, with the tag for byte 1 and no time yet.
+pub fn stored(m: Message) -> [u8; 16]
+    ensures { λ r. ⌜ r ≡ stored m ⌝ }
+{
+    let header = m.header;
+    let eight = m.bytes;
+    let mut bytes = crate::received(header, eight, 0, 0);
+    bytes[0] = m.tag;
+    bytes
 }

@@ -1,0 +1,19 @@
+-- `frame::sent::stored` meets its contract. Assumes nothing.
+use Rattle.frame.specs.Received.{received}
+use Rattle.frame.specs.Sent.{stored}
+use borrow.Author.Needs.{needs}
+use Rattle.frame.proofs.sent.stored.Statement.{statement}
+use Rattle.frame.proofs.sent.stored.Tie as tie
+
+received-requires : tie.Need-received-requires
+received-requires c κs = search needs
+
+array-write-bytes : tie.Need-array-write-bytes
+array-write-bytes c = search needs
+
+returns : tie.Need-returns
+unfolding stored received
+returns c = rw (c .received .ensures)
+
+pub stored-spec : {M : Type 1} → statement M
+stored-spec = tie.close (tie.spec received-requires array-write-bytes returns)

@@ -1,0 +1,5 @@
+pub mod Flags
+pub mod Reset
+pub mod Modes
+pub mod Receive
+pub mod Transmit
