@@ -1,5 +1,5 @@
 -- Laws on lists that the kit does not have. Assumes nothing.
-use mathlib.Core.Path.{_≡_, ap, sym, _∙_}
+use mathlib.Core.Path.{_≡_, refl, ap, sym, _∙_}
 use mathlib.Core.List.{List, [], _∷_, _++_}
 use Prim.Native.Nat.{ℕ, zero, suc, _<_, _+_, _-_}
 use native.Mathlib.Omega.{arith}
@@ -32,3 +32,12 @@ getD-tabulate f d (suc n) i (suc k) h = getD-tabulate f d n (suc i) k (le-of-suc
 
 pub table-at : {A : Type 0} (rule : ℕ → A) (d : A) (n k : ℕ) → k < n → getD (tabulate rule 0 n) k d ≡ rule k
 table-at rule d n k h = getD-tabulate rule d n 0 k h ∙ ap rule (zero-add k)
+
+-- a list of known length is the list of its elements
+shift : {A : Type 0} (f : ℕ → A) (i n : ℕ) → tabulate f (suc i) n ≡ tabulate (λ (k : ℕ). f (suc k)) i n
+shift {A = A} f i zero = refl
+shift {A = A} f i (suc n) = ap (λ (l : List A). f (suc i) ∷ l) (shift f (suc i) n)
+
+pub listed : {A : Type 0} (d : A) (l : List A) → l ≡ tabulate (λ (k : ℕ). getD l k d) 0 (length l)
+listed {A = A} d [] = refl
+listed {A = A} d (x ∷ l) = ap (λ (r : List A). x ∷ r) (listed d l ∙ sym (shift (λ (k : ℕ). getD (x ∷ l) k d) 0 (length l)))

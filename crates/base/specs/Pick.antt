@@ -2,6 +2,7 @@
 -- The rules turn a goal `r ≡ pick t x y` into the branch that a proof stands in; `search picks` applies them down to the leaf.
 use mathlib.Core.Path.{_≡_}
 use mathlib.Core.Bool.{Bool, true, false, not, _&&_, _||_}
+use mathlib.Core.List.{List, [], _∷_}
 use Prim.Native.Nat.{ℕ, _<_, _≤_}
 use borrow.Author.Tests.{lt-ltb, le-ltb, le-leb, lt-leb, eq-eqb, ne-eqb}
 use lib.Dec.{ltb, leb, eqb}
@@ -10,6 +11,11 @@ pub use mathlib.Core.Bool.{cond as pick}
 -- a flag as a bit
 abbrev pub flag : Bool → ℕ
 flag b = pick b 1 0
+
+-- A table of cases: the first whose key it is, or what holds otherwise.
+abbrev pub among : {A : Type 0} → ℕ → List (ℕ × A) → A → A
+among v [] other = other
+among v (c ∷ cases) other = pick (eqb v (c .0)) (c .1) (among v cases other)
 
 pub pick-yes : (A : Type 0) (t : Bool) (r x y : A) → t ≡ true → r ≡ x → r ≡ pick t x y
 pick-yes A t r x y e p = rw e p

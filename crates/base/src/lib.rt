@@ -1,7 +1,8 @@
-// The ground that the other crates stand on: definitions and laws in specs/ and proofs/, and the one copy into a lent
-// buffer.
+// The ground that the other crates stand on: definitions and laws in specs/ and proofs/, a flag as a bit, and how lent bytes
+// are read and written.
 ghost use mathlib.Core.Path.{_≡_};
 ghost use Prim.Native.Nat.{_≤_};
+ghost use lib.ListN.{getD};
 ghost use Rattle.base.specs.Pick.{flag};
 ghost use Rattle.base.specs.Put.{putOf};
 
@@ -10,6 +11,13 @@ pub fn flag(b: bool) -> u8
     ensures { λ r. ⌜ (r ≡ flag b) × (r ≤ 1) ⌝ }
 {
     if b { 1 } else { 0 }
+}
+
+// A byte of what was sent; one that isn't there reads as zero.
+pub fn at(s: &[u8], i: usize) -> u8
+    ensures { λ r. ⌜ r ≡ getD (now (s .entry)) i 0 ⌝ }
+{
+    if i < s.len() { s[i] } else { 0 }
 }
 
 // The reply at the front of the lent buffer, and what stood after it; a buffer too short for it stays as it came.

@@ -2,7 +2,6 @@
 use Prim.Native.Nat.{_≤_}
 use native.Mathlib.Omega.{arith}
 use lib.Dec.{eqb}
-use Rattle.base.specs.Pick.{pick}
 use Rattle.base.proofs.Booleans.{pick-bound}
 use Rattle.chip.specs.declared.Device.{Device}
 use Rattle.chip.specs.Drawn.{tstat}

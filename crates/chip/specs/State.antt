@@ -1,5 +1,5 @@
 -- The state after power-up, the modes, and what enables a transmission.
-use mathlib.Core.Bool.{Bool, true, false, _||_}
+use mathlib.Core.Bool.{Bool, false, _||_}
 use mathlib.Core.List.{List, []}
 use Prim.Native.Nat.{ℕ, _/_}
 use lib.Dec.{ltb}
@@ -46,7 +46,17 @@ alone = 2
 -- 000's defaults: CTRL0 has MODE 100, every other register is zero.
 abbrev pub fresh-registers : Registers
 fresh-registers = record {
-  ctrl0 = 128; ctrl1 = 0; btr0 = 0; btr1 = 0; inte = 0; statfe = 0; gpine = 0; intf = 0; errs = 0; filhit = 0; mtag = 0
+  ctrl0 = 128;
+  ctrl1 = 0;
+  btr0 = 0;
+  btr1 = 0;
+  inte = 0;
+  statfe = 0;
+  gpine = 0;
+  intf = 0;
+  errs = 0;
+  filhit = 0;
+  mtag = 0;
 }
 
 abbrev pub zeros : Pattern

@@ -120,7 +120,11 @@ pub fn fresh() -> Device
 pub fn mode_of(ctrl0: u8) -> u8
     ensures { λ r. ⌜ r ≡ modeOf ctrl0 ⌝ }
 {
-    if ctrl0 < 0x80 { ctrl0 / 32 } else { INITIALIZATION }
+    if ctrl0 < 0x80 {
+        ctrl0 / 32
+    } else {
+        INITIALIZATION
+    }
 }
 
 // Whether a message may be begun, for all that the host and the TXEN pin say.
@@ -187,7 +191,11 @@ fn sending_in_range(d: Device) -> bool
 {
     let sending = d.sending;
     let waiting = d.tx.count;
-    if sending == FIRST { 1 <= waiting } else { sending <= 2 }
+    if sending == FIRST {
+        1 <= waiting
+    } else {
+        sending <= 2
+    }
 }
 
 fn acting_in_range(d: Device) -> bool
@@ -195,7 +203,11 @@ fn acting_in_range(d: Device) -> bool
 {
     let acting = d.acting;
     let named = mode_of(d.regs.ctrl0);
-    if named == SLEEP { acting <= 4 } else { acting == named }
+    if named == SLEEP {
+        acting <= 4
+    } else {
+        acting == named
+    }
 }
 
 // Whether every count, place and field is one that the chip can have: a device of another kind is refused with 1.

@@ -12,7 +12,7 @@ use lib.Seq.{drop-cons}
 use Rattle.base.specs.Pick.{pick}
 use Rattle.base.proofs.Booleans.{and-left, and-right}
 use Rattle.commands.specs.declared.Found.{Found}
-use Rattle.commands.specs.declared.Found.the-variants.{At, Nothing}
+use Rattle.commands.specs.declared.Found.the-variants.{At}
 use Rattle.commands.specs.declared.Row.{Row}
 use Rattle.commands.specs.Table.{rows, noRow, lookup}
 

@@ -40,75 +40,75 @@ noRow = reset 0 0
 
 unfoldable pub rows : List Row
 rows =
-    read 66 15 readTemporaryWithTime ∷ -- 0x42
-    read 68 13 readTemporary ∷ -- 0x44
-    read 70 16 readMessageWithTime ∷ -- 0x46
-    read 72 14 readMessage ∷ -- 0x48
-    read 74 11 readDataWithTime ∷ -- 0x4A
-    read 76 9 readData ∷ -- 0x4C
-    readOf 162 readFilter 0 ∷ -- 0xA2
-    readOf 164 readFilter 1 ∷ -- 0xA4
-    readOf 166 readFilter 2 ∷ -- 0xA6
-    readOf 168 readFilter 3 ∷ -- 0xA8
-    readOf 170 readFilter 4 ∷ -- 0xAA
-    readOf 172 readFilter 5 ∷ -- 0xAC
-    readOf 174 readFilter 6 ∷ -- 0xAE
-    readOf 178 readFilter 7 ∷ -- 0xB2
-    readOf 180 readMask 0 ∷ -- 0xB4
-    readOf 182 readMask 1 ∷ -- 0xB6
-    readOf 184 readMask 2 ∷ -- 0xB8
-    readOf 186 readMask 3 ∷ -- 0xBA
-    readOf 188 readMask 4 ∷ -- 0xBC
-    readOf 190 readMask 5 ∷ -- 0xBE
-    readOf 194 readMask 6 ∷ -- 0xC2
-    readOf 196 readMask 7 ∷ -- 0xC4
-    read 210 1 readCtrl0 ∷ -- 0xD2
-    read 212 1 readCtrl1 ∷ -- 0xD4
-    read 214 1 readBtr0 ∷ -- 0xD6
-    read 216 1 readBtr1 ∷ -- 0xD8
-    read 218 1 readMesstat ∷ -- 0xDA
-    read 220 1 readErr ∷ -- 0xDC
-    read 222 1 readIntf ∷ -- 0xDE
-    read 226 1 readStatf ∷ -- 0xE2
-    read 228 1 readInte ∷ -- 0xE4
-    read 230 1 readStatfe ∷ -- 0xE6
-    read 232 1 readGpine ∷ -- 0xE8
-    read 234 1 readRec ∷ -- 0xEA
-    read 236 1 readTec ∷ -- 0xEC
-    read 238 3 readHistory ∷ -- 0xEE
-    read 248 1 readRecessiveCount ∷ -- 0xF8
-    read 250 2 readTime ∷ -- 0xFA
-    reset 82 abortTransmission ∷ -- 0x52
-    reset 84 clearTransmit ∷ -- 0x54
-    reset 86 masterReset ∷ -- 0x56
-    reset 88 resetTime ∷ -- 0x58
-    reset 90 clearReceive ∷ -- 0x5A
-    row 18 4 14 0 writeMessage 0 ∷ -- 0x12
-    write 20 writeCtrl0 ∷ -- 0x14
-    write 22 writeCtrl1 ∷ -- 0x16
-    write 24 writeBtr0 ∷ -- 0x18
-    write 26 writeBtr1 ∷ -- 0x1A
-    write 28 writeInte ∷ -- 0x1C
-    write 30 writeStatfe ∷ -- 0x1E
-    write 34 writeGpine ∷ -- 0x22
-    write 36 writeRec ∷ -- 0x24
-    write 38 writeTec ∷ -- 0x26
-    writeTo 98 writeFilter 0 ∷ -- 0x62
-    writeTo 100 writeFilter 1 ∷ -- 0x64
-    writeTo 102 writeFilter 2 ∷ -- 0x66
-    writeTo 104 writeFilter 3 ∷ -- 0x68
-    writeTo 106 writeFilter 4 ∷ -- 0x6A
-    writeTo 108 writeFilter 5 ∷ -- 0x6C
-    writeTo 110 writeFilter 6 ∷ -- 0x6E
-    writeTo 114 writeFilter 7 ∷ -- 0x72
-    writeTo 116 writeMask 0 ∷ -- 0x74
-    writeTo 118 writeMask 1 ∷ -- 0x76
-    writeTo 120 writeMask 2 ∷ -- 0x78
-    writeTo 122 writeMask 3 ∷ -- 0x7A
-    writeTo 124 writeMask 4 ∷ -- 0x7C
-    writeTo 126 writeMask 5 ∷ -- 0x7E
-    writeTo 130 writeMask 6 ∷ -- 0x82
-    writeTo 132 writeMask 7 ∷ -- 0x84
+    read 66 15 readTemporaryWithTime ∷  -- 0x42
+    read 68 13 readTemporary ∷  -- 0x44
+    read 70 16 readMessageWithTime ∷  -- 0x46
+    read 72 14 readMessage ∷  -- 0x48
+    read 74 11 readDataWithTime ∷  -- 0x4A
+    read 76 9 readData ∷  -- 0x4C
+    readOf 162 readFilter 0 ∷  -- 0xA2
+    readOf 164 readFilter 1 ∷  -- 0xA4
+    readOf 166 readFilter 2 ∷  -- 0xA6
+    readOf 168 readFilter 3 ∷  -- 0xA8
+    readOf 170 readFilter 4 ∷  -- 0xAA
+    readOf 172 readFilter 5 ∷  -- 0xAC
+    readOf 174 readFilter 6 ∷  -- 0xAE
+    readOf 178 readFilter 7 ∷  -- 0xB2
+    readOf 180 readMask 0 ∷  -- 0xB4
+    readOf 182 readMask 1 ∷  -- 0xB6
+    readOf 184 readMask 2 ∷  -- 0xB8
+    readOf 186 readMask 3 ∷  -- 0xBA
+    readOf 188 readMask 4 ∷  -- 0xBC
+    readOf 190 readMask 5 ∷  -- 0xBE
+    readOf 194 readMask 6 ∷  -- 0xC2
+    readOf 196 readMask 7 ∷  -- 0xC4
+    read 210 1 readCtrl0 ∷  -- 0xD2
+    read 212 1 readCtrl1 ∷  -- 0xD4
+    read 214 1 readBtr0 ∷  -- 0xD6
+    read 216 1 readBtr1 ∷  -- 0xD8
+    read 218 1 readMesstat ∷  -- 0xDA
+    read 220 1 readErr ∷  -- 0xDC
+    read 222 1 readIntf ∷  -- 0xDE
+    read 226 1 readStatf ∷  -- 0xE2
+    read 228 1 readInte ∷  -- 0xE4
+    read 230 1 readStatfe ∷  -- 0xE6
+    read 232 1 readGpine ∷  -- 0xE8
+    read 234 1 readRec ∷  -- 0xEA
+    read 236 1 readTec ∷  -- 0xEC
+    read 238 3 readHistory ∷  -- 0xEE
+    read 248 1 readRecessiveCount ∷  -- 0xF8
+    read 250 2 readTime ∷  -- 0xFA
+    reset 82 abortTransmission ∷  -- 0x52
+    reset 84 clearTransmit ∷  -- 0x54
+    reset 86 masterReset ∷  -- 0x56
+    reset 88 resetTime ∷  -- 0x58
+    reset 90 clearReceive ∷  -- 0x5A
+    row 18 4 14 0 writeMessage 0 ∷  -- 0x12
+    write 20 writeCtrl0 ∷  -- 0x14
+    write 22 writeCtrl1 ∷  -- 0x16
+    write 24 writeBtr0 ∷  -- 0x18
+    write 26 writeBtr1 ∷  -- 0x1A
+    write 28 writeInte ∷  -- 0x1C
+    write 30 writeStatfe ∷  -- 0x1E
+    write 34 writeGpine ∷  -- 0x22
+    write 36 writeRec ∷  -- 0x24
+    write 38 writeTec ∷  -- 0x26
+    writeTo 98 writeFilter 0 ∷  -- 0x62
+    writeTo 100 writeFilter 1 ∷  -- 0x64
+    writeTo 102 writeFilter 2 ∷  -- 0x66
+    writeTo 104 writeFilter 3 ∷  -- 0x68
+    writeTo 106 writeFilter 4 ∷  -- 0x6A
+    writeTo 108 writeFilter 5 ∷  -- 0x6C
+    writeTo 110 writeFilter 6 ∷  -- 0x6E
+    writeTo 114 writeFilter 7 ∷  -- 0x72
+    writeTo 116 writeMask 0 ∷  -- 0x74
+    writeTo 118 writeMask 1 ∷  -- 0x76
+    writeTo 120 writeMask 2 ∷  -- 0x78
+    writeTo 122 writeMask 3 ∷  -- 0x7A
+    writeTo 124 writeMask 4 ∷  -- 0x7C
+    writeTo 126 writeMask 5 ∷  -- 0x7E
+    writeTo 130 writeMask 6 ∷  -- 0x82
+    writeTo 132 writeMask 7 ∷  -- 0x84
     []
 
 -- the row whose command it is, the first if there were two

@@ -1,7 +1,6 @@
 // The message that 0x12 brings after its command byte: Table 2.
 ghost use mathlib.Core.Path.{_≡_};
 ghost use mathlib.Core.Bool.{true};
-ghost use lib.ListN.{getD};
 ghost use Rattle.frame.specs.Sent.{isExtended, dataFrom, standardHeader, extendedHeader, headerSent};
 ghost use Rattle.frame.specs.Sent.{rightLength, messageIn, readMessage, stored};
 use crate::Header;
@@ -19,17 +18,10 @@ pub struct Reading {
     pub message: Message,
 }
 
-// A byte that isn't there reads as zero; the length is judged apart.
-fn at(s: &[u8], i: usize) -> u8
-    ensures { λ r. ⌜ r ≡ getD (now (s .entry)) i 0 ⌝ }
-{
-    if i < s.len() { s[i] } else { 0 }
-}
-
 fn is_extended(s: &[u8]) -> bool
     ensures { λ r. ⌜ r ≡ isExtended (now (s .entry)) ⌝ }
 {
-    (at(s, 2) >> 3) % 2 == 1
+    (base::at(s, 2) >> 3) % 2 == 1
 }
 
 fn data_from(s: &[u8]) -> usize
@@ -64,14 +56,20 @@ fn header_sent(s: &[u8]) -> Header
     ensures { λ r. ⌜ r ≡ headerSent (now (s .entry)) ⌝ }
 {
     if is_extended(s) {
-        extended(at(s, 1), at(s, 2), at(s, 3), at(s, 4), at(s, 5))
+        extended(
+            base::at(s, 1),
+            base::at(s, 2),
+            base::at(s, 3),
+            base::at(s, 4),
+            base::at(s, 5),
+        )
     } else {
-        standard(at(s, 1), at(s, 2), at(s, 3))
+        standard(base::at(s, 1), base::at(s, 2), base::at(s, 3))
     }
 }
 
 // The length has to be the command's for this message, whatever bytes follow its data.
-fn right_length(s: &[u8]) -> bool
+pub fn right_length(s: &[u8]) -> bool
     ensures { λ r. ⌜ r ≡ rightLength (now (s .entry)) ⌝ }
 {
     let from = data_from(s);
@@ -87,7 +85,7 @@ fn message_in(s: &[u8]) -> Message
     requires { ⌜ rightLength (now s) ≡ true ⌝ }
     ensures { λ r. ⌜ r ≡ messageIn (now (s .entry)) ⌝ }
 {
-    let tag = at(s, 0);
+    let tag = base::at(s, 0);
     let header = header_sent(s);
     let from = data_from(s);
     let bytes = crate::data_of(header, &s[from..]);

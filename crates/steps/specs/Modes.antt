@@ -1,5 +1,5 @@
 -- How a mode comes to act (01, Modes and filters).
-use mathlib.Core.Bool.{Bool, not, _&&_, _||_}
+use mathlib.Core.Bool.{Bool, not, _&&_}
 use Prim.Native.Nat.{ℕ, _+_, _%_}
 use lib.Dec.{eqb}
 use Rattle.base.specs.Bit.{isSet}

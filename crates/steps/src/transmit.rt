@@ -2,8 +2,8 @@
 ghost use mathlib.Core.Path.{_≡_};
 ghost use Rattle.steps.specs.Transmit.{sends, canBegin, withoutTx1m, begun, stopped, aborted, cleared, stamped};
 ghost use Rattle.steps.specs.Transmit.{ctrl1Begun, leftAlone, fifoAfter, countedCompletion, sent};
-use chip::Device;
 use chip::ALONE;
+use chip::Device;
 use chip::FIRST;
 use chip::IDLE;
 use chip::LOOPBACK;
@@ -16,7 +16,11 @@ use fifo::Message;
 fn sends(acting: u8) -> bool
     ensures { λ r. ⌜ r ≡ sends acting ⌝ }
 {
-    if acting == NORMAL { true } else { acting == LOOPBACK }
+    if acting == NORMAL {
+        true
+    } else {
+        acting == LOOPBACK
+    }
 }
 
 // Whether a message may begin now.

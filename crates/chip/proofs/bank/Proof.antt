@@ -1,6 +1,5 @@
 -- `chip::bank` meets its contract. Assumes nothing.
 use Rattle.chip.specs.State.{bank}
-use Rattle.base.specs.Pick.{picks, judges}
 use borrow.Author.Needs.{needs}
 use Rattle.chip.proofs.bank.Statement.{statement}
 use Rattle.chip.proofs.bank.Tie as tie

@@ -2,7 +2,6 @@
 use Rattle.counters.proofs.Bounds.{err-bits-le}
 use native.Mathlib.Omega.{arith}
 use Rattle.chip.specs.Drawn.{err}
-use Rattle.base.specs.Pick.{picks, judges}
 use borrow.Author.Needs.{needs}
 use Rattle.chip.proofs.err.Statement.{statement}
 use Rattle.chip.proofs.err.Tie as tie

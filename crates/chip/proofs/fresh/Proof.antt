@@ -1,6 +1,5 @@
 -- `chip::fresh` meets its contract. Assumes nothing.
 use Rattle.chip.specs.State.{fresh}
-use Rattle.base.specs.Pick.{picks, judges}
 use borrow.Author.Needs.{needs}
 use Rattle.chip.proofs.fresh.Statement.{statement}
 use Rattle.chip.proofs.fresh.Tie as tie

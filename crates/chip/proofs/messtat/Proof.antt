@@ -2,7 +2,6 @@
 use Rattle.chip.proofs.Bounds.{tstat-le}
 use native.Mathlib.Omega.{arith}
 use Rattle.chip.specs.Drawn.{messtat}
-use Rattle.base.specs.Pick.{picks, judges}
 use borrow.Author.Needs.{needs}
 use Rattle.chip.proofs.messtat.Statement.{statement}
 use Rattle.chip.proofs.messtat.Tie as tie

@@ -1,6 +1,5 @@
 -- `chip::stat` meets its contract. Assumes nothing.
 use Rattle.chip.specs.Drawn.{stat}
-use Rattle.base.specs.Pick.{picks, judges}
 use borrow.Author.Needs.{needs}
 use Rattle.chip.proofs.stat.Statement.{statement}
 use Rattle.chip.proofs.stat.Tie as tie

@@ -1,7 +1,6 @@
 -- `chip::statf` meets its contract. Assumes nothing.
 use native.Mathlib.Omega.{arith}
 use Rattle.chip.specs.Drawn.{statf}
-use Rattle.base.specs.Pick.{picks, judges}
 use borrow.Author.Needs.{needs}
 use Rattle.chip.proofs.statf.Statement.{statement}
 use Rattle.chip.proofs.statf.Tie as tie

@@ -1,6 +1,5 @@
 -- `steps::reset` meets its contract. Assumes nothing.
 use Rattle.steps.specs.Reset.{reset}
-use Rattle.base.specs.Pick.{picks, judges}
 use borrow.Author.Needs.{needs}
 use Rattle.steps.proofs.reset.Statement.{statement}
 use Rattle.steps.proofs.reset.Tie as tie

@@ -1,6 +1,5 @@
 -- `steps::receive::arrived` meets its contract. Assumes nothing.
 use Rattle.steps.specs.Receive.{arrived}
-use Rattle.base.specs.Pick.{picks, judges}
 use borrow.Author.Needs.{needs}
 use Rattle.steps.proofs.receive.arrived.Statement.{statement}
 use Rattle.steps.proofs.receive.arrived.Tie as tie

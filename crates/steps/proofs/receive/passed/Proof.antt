@@ -1,6 +1,5 @@
 -- `steps::receive::passed` meets its contract. Assumes nothing.
 use Rattle.steps.specs.Receive.{passed}
-use Rattle.base.specs.Pick.{picks, judges}
 use borrow.Author.Needs.{needs}
 use Rattle.steps.proofs.receive.passed.Statement.{statement}
 use Rattle.steps.proofs.receive.passed.Tie as tie

@@ -1,6 +1,5 @@
 -- `steps::transmit::begun` meets its contract. Assumes nothing.
 use Rattle.steps.specs.Transmit.{begun}
-use Rattle.base.specs.Pick.{picks, judges}
 use borrow.Author.Needs.{needs}
 use Rattle.steps.proofs.transmit.begun.Statement.{statement}
 use Rattle.steps.proofs.transmit.begun.Tie as tie

@@ -1,6 +1,5 @@
 -- `steps::transmit::cleared` meets its contract. Assumes nothing.
 use Rattle.steps.specs.Transmit.{cleared}
-use Rattle.base.specs.Pick.{picks, judges}
 use borrow.Author.Needs.{needs}
 use Rattle.steps.proofs.transmit.cleared.Statement.{statement}
 use Rattle.steps.proofs.transmit.cleared.Tie as tie

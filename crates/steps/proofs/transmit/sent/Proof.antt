@@ -1,6 +1,5 @@
 -- `steps::transmit::sent` meets its contract. Assumes nothing.
 use Rattle.steps.specs.Transmit.{sent}
-use Rattle.base.specs.Pick.{picks, judges}
 use borrow.Author.Needs.{needs}
 use Rattle.steps.proofs.transmit.sent.Statement.{statement}
 use Rattle.steps.proofs.transmit.sent.Tie as tie

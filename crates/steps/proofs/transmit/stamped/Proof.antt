@@ -5,7 +5,6 @@ use mathlib.Core.Path.{_≡_}
 use native.Mathlib.Omega.{arith}
 use Rattle.steps.proofs.Stamp.{set-two}
 use Rattle.steps.specs.Transmit.{stamped}
-use Rattle.base.specs.Pick.{picks, judges}
 use borrow.Author.Needs.{needs}
 use Rattle.steps.proofs.transmit.stamped.Statement.{statement}
 use Rattle.steps.proofs.transmit.stamped.Tie as tie
@@ -24,7 +23,7 @@ array-write-bytes-2 c = search needs
 
 returns : tie.Need-returns
 unfolding stamped
-returns c = 
+returns c =
     let a = c .before .args in
     let sixteen : length (a .m .bytes) ≡ 16 = search needs in
     rw (set-two (a .m .bytes) (a .time / 256) (a .time % 256) (omega arith))

@@ -1,9 +1,9 @@
--- `frame::sent::at` meets its contract. Assumes nothing.
+-- `base::at` meets its contract. Assumes nothing.
 use mathlib.Core.Path.{sym}
 use borrow.Author.Needs.{needs}
 use lib.ListN.{List·getD-eq-default}
-use Rattle.frame.proofs.sent.at.Statement.{statement}
-use Rattle.frame.proofs.sent.at.Tie as tie
+use Rattle.base.proofs.at.Statement.{statement}
+use Rattle.base.proofs.at.Tie as tie
 
 shared-slice-read-result : tie.Need-shared-slice-read-result
 shared-slice-read-result c = search needs

@@ -1,0 +1,4 @@
+pub mod Refused
+pub mod Shown
+pub mod Done
+pub mod Transfer
