@@ -1,0 +1,16 @@
+-- `bus::changed::ticked` meets its contract. Assumes nothing.
+use Rattle.bus.specs.Changed.{ticked}
+use Rattle.base.specs.Pick.{picks, judges}
+use borrow.Author.Needs.{needs}
+use Rattle.bus.proofs.changed.ticked.Statement.{statement}
+use Rattle.bus.proofs.changed.ticked.Tie as tie
+
+later-requires : tie.Need-later-requires
+later-requires c κs = search needs
+
+returns : tie.Need-returns
+unfolding ticked
+returns c = rw (← c .later .ensures) (search (picks, judges))
+
+pub ticked-spec : {M : Type 1} → statement M
+ticked-spec = tie.close (tie.spec later-requires returns)

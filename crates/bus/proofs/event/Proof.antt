@@ -1,0 +1,51 @@
+-- `bus::event` meets its contract. Assumes nothing.
+use mathlib.Core.Path.{sym, _∙_}
+use Rattle.bus.specs.Event.{event}
+use Rattle.base.specs.Pick.{picks, judges}
+use borrow.Author.Needs.{needs}
+use Rattle.bus.proofs.event.Statement.{statement}
+use Rattle.bus.proofs.event.Tie as tie
+
+answer-requires : tie.Need-answer-requires
+answer-requires c κs = search needs
+
+enum-known-a : tie.Need-enum-known-a
+enum-known-a c = search needs
+
+enum-told : tie.Need-enum-told
+enum-told c = search needs
+
+after-requires : tie.Need-after-requires
+after-requires c κs = search needs
+
+enum-known-a-2 : tie.Need-enum-known-a-2
+enum-known-a-2 c = search needs
+
+after-requires-2 : tie.Need-after-requires-2
+after-requires-2 c κs = search needs
+
+returns : tie.Need-returns
+unfolding event
+returns c = rw (sym (c .before .before .before .answer .ensures) ∙ c .before .a .given .1)
+
+returns-2 : tie.Need-returns-2
+unfolding event
+returns-2 c = rw (sym (c .before .before .before .answer .ensures) ∙ c .before .enum-told .given .1, c .after .ensures)
+
+returns-3 : tie.Need-returns-3
+unfolding event
+returns-3 c = rw (sym (c .before .before .before .before .answer .ensures) ∙ c .before .before .a2 .given .1, c .after2 .ensures)
+
+pub event-spec : {M : Type 1} → statement M
+event-spec =
+    tie.close
+    (tie.spec
+    answer-requires
+    enum-known-a
+    enum-told
+    after-requires
+    enum-known-a-2
+    after-requires-2
+    returns
+    returns-2
+    returns-3)

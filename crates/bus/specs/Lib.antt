@@ -1,0 +1,4 @@
+pub mod Judged
+pub mod Changed
+pub mod Event
+pub mod Pins

@@ -1,0 +1,65 @@
+// The bus's door: an event in, an answer out. First the answer is found, from the state alone; then the change is made.
+ghost use mathlib.Core.Path.{_≡_};
+ghost use Rattle.bus.specs.Event.{answer, event};
+ghost use Rattle.bus.specs.Pins.{pins};
+use chip::Device;
+use types::Answer;
+use types::Event;
+use types::Outcome;
+use types::Pins;
+
+pub mod types;
+
+mod changed;
+mod judged;
+
+// The answer that an event gets; the device stays.
+pub fn answer(d: Device, e: Event, payload: [u8; 8]) -> Answer
+    ensures { λ r. ⌜ r ≡ answer d e payload ⌝ }
+{
+    if chip::proper(d) {
+        if judged::impossible(d, e) {
+            return Answer::Refused(8);
+        }
+        return judged::said(d, e, payload);
+    }
+    Answer::Refused(1)
+}
+
+pub fn event(d: Device, e: Event, payload: [u8; 8]) -> Outcome
+    ensures { λ r. ⌜ r ≡ event d e payload ⌝ }
+{
+    let a = answer(d, e, payload);
+    match a {
+        Answer::Refused(n) => Outcome {
+            device: d,
+            answer: Answer::Refused(n),
+        },
+        Answer::Done => {
+            let after = changed::after(d, e, payload);
+            Outcome {
+                device: after,
+                answer: Answer::Done,
+            }
+        }
+        Answer::Arrived(what) => {
+            let after = changed::after(d, e, payload);
+            Outcome {
+                device: after,
+                answer: Answer::Arrived(what),
+            }
+        }
+    }
+}
+
+// The four output pins.
+pub fn pins(d: Device) -> Pins
+    ensures { λ r. ⌜ r ≡ pins d ⌝ }
+{
+    let gpine = d.regs.gpine;
+    let int = chip::int(d);
+    let stat = chip::stat(d);
+    let gp1 = chip::gp(d, gpine % 16);
+    let gp2 = chip::gp(d, gpine / 16);
+    Pins { int, stat, gp1, gp2 }
+}
