@@ -11,13 +11,13 @@ use Rattle.frame.specs.Received.{headerIn, dataIn}
 use Rattle.chip.specs.declared.Device.{Device}
 use Rattle.chip.specs.Parts.{with-counters, with-time, with-txenpin}
 use Rattle.chip.specs.State.{normal, loopback, monitor, bor}
-use Rattle.steps.specs.declared.receive.Arrival.{Arrival}
-use Rattle.steps.specs.declared.receive.Arrival.the-variants.{Queued, A1, A2, A3, A4, A5}
-use Rattle.steps.specs.Flags.{busError}
-use Rattle.steps.specs.Modes.{busQuiet, busActivity}
-use Rattle.steps.specs.Receive.{arrived}
-use Rattle.steps.specs.Reset.{reset}
-use Rattle.steps.specs.Transmit.{begun, stopped, sent}
+use Rattle.receive.specs.declared.Arrival.{Arrival}
+use Rattle.receive.specs.declared.Arrival.the-variants.{Queued, A1, A2, A3, A4, A5}
+use Rattle.flags.specs.Flags.{busError}
+use Rattle.modes.specs.Modes.{busQuiet, busActivity}
+use Rattle.receive.specs.Receive.{arrived}
+use Rattle.flags.specs.Reset.{reset}
+use Rattle.transmit.specs.Transmit.{begun, stopped, sent}
 use Rattle.bus.specs.declared.types.ErrorKind.{ErrorKind}
 use Rattle.bus.specs.declared.types.ErrorKind.the-variants.{Stuff, Ack, Crc, Form, Bit}
 use Rattle.bus.specs.declared.types.Event.{Event}

@@ -4,8 +4,8 @@ use Prim.Native.Nat.{ℕ}
 use Rattle.base.specs.Pick.{pick}
 use Rattle.chip.specs.declared.Device.{Device}
 use Rattle.chip.specs.Proper.{proper}
-use Rattle.steps.specs.declared.receive.Arrival.{Arrival}
-use Rattle.steps.specs.declared.receive.Arrival.the-variants.{Queued, A1, A2, A3, A4, A5}
+use Rattle.receive.specs.declared.Arrival.{Arrival}
+use Rattle.receive.specs.declared.Arrival.the-variants.{Queued, A1, A2, A3, A4, A5}
 use Rattle.bus.specs.declared.types.Answer.{Answer}
 use Rattle.bus.specs.declared.types.Answer.the-variants.{Refused, Done, Arrived}
 use Rattle.bus.specs.declared.types.Event.{Event}

@@ -9,10 +9,10 @@ use Rattle.frame.specs.Length.{possible, dataFits}
 use Rattle.frame.specs.Received.{headerIn, dataIn}
 use Rattle.chip.specs.declared.Device.{Device}
 use Rattle.chip.specs.State.{loopback, monitor, sleep, initialization, idle}
-use Rattle.steps.specs.declared.receive.Arrival.{Arrival}
-use Rattle.steps.specs.declared.receive.Arrival.the-variants.{A1, A2, A3}
-use Rattle.steps.specs.Receive.{reason as filtersAndRoom}
-use Rattle.steps.specs.Transmit.{canBegin}
+use Rattle.receive.specs.declared.Arrival.{Arrival}
+use Rattle.receive.specs.declared.Arrival.the-variants.{A1, A2, A3}
+use Rattle.receive.specs.Receive.{reason as filtersAndRoom}
+use Rattle.transmit.specs.Transmit.{canBegin}
 use Rattle.bus.specs.declared.types.Answer.{Answer}
 use Rattle.bus.specs.declared.types.Answer.the-variants.{Done, Arrived}
 use Rattle.bus.specs.declared.types.Event.{Event}
@@ -56,12 +56,16 @@ impossible d Unknown = true
 unfoldable pub takesNoFrames : ℕ → Bool
 takesNoFrames acting = quietMode acting || eqb acting loopback
 
--- The first reason that holds: A1; "A2 bus off; A3 monitor mode, and no other node acknowledged it"; then the filters and the room.
+-- A3: "monitor mode, and no other node acknowledged it"
+unfoldable pub unacknowledged : ℕ → Bool → Bool
+unacknowledged acting acknowledged = eqb acting monitor && not acknowledged
+
+-- "the first that holds": A1; "A2 bus off"; A3; then the filters and the room
 unfoldable pub reason : Device → Header → Bool → List ℕ → Arrival
 reason d h acknowledged bytes =
     pick (takesNoFrames (d .acting)) A1
     (pick (d .counters .busoff) A2
-    (pick (eqb (d .acting) monitor && not acknowledged) A3
+    (pick (unacknowledged (d .acting) acknowledged) A3
     (filtersAndRoom d h bytes)))
 
 -- "In loopback each completed own message arrives as a good frame: the completion's answer also says Queued, A4 or A5"

@@ -11,7 +11,7 @@ use chip::MONITOR;
 use chip::NORMAL;
 use counters::Counters;
 use frame::Header;
-use steps::receive::Arrival;
+use receive::Arrival;
 
 fn err_bit(kind: ErrorKind) -> u8
     ensures { λ r. ⌜ r ≡ errBit kind ⌝ }
@@ -42,7 +42,7 @@ fn heard(d: Device, h: Header, payload: [u8; 8]) -> Device
 {
     let pair = d.counters;
     let c = counted_frame(pair, d.acting);
-    let mut e = steps::receive::arrived(d, h, payload);
+    let mut e = receive::arrived(d, h, payload);
     e.counters = c;
     e
 }
@@ -53,7 +53,7 @@ fn frame_after(d: Device, h: Header, payload: [u8; 8], what: Arrival) -> Device
 {
     match what {
         Arrival::Queued => heard(d, h, payload),
-        Arrival::A1 => steps::modes::bus_activity(d),
+        Arrival::A1 => modes::bus_activity(d),
         Arrival::A2 => d,
         Arrival::A3 => d,
         Arrival::A4 => heard(d, h, payload),
@@ -76,7 +76,7 @@ fn error_received(d: Device, kind: ErrorKind) -> Device
 {
     let pair = d.counters;
     let c = counted_receive_error(pair, d.acting);
-    let mut e = steps::bus_error(d, err_bit(kind));
+    let mut e = flags::bus_error(d, err_bit(kind));
     e.counters = c;
     e
 }
@@ -115,9 +115,9 @@ fn error_sent(d: Device, kind: ErrorKind, counted: bool) -> Device
 {
     let pair = d.counters;
     let c = counted_transmit_error(pair, d.acting, counted);
-    let mut e = steps::bus_error(d, err_bit(kind));
+    let mut e = flags::bus_error(d, err_bit(kind));
     e.counters = c;
-    steps::transmit::stopped(e)
+    transmit::stopped(e)
 }
 
 // A completion: in loopback the message arrives first, then it is sent.
@@ -130,10 +130,10 @@ fn completed(d: Device) -> Device
         let bytes = m.bytes;
         let h = frame::header_in(bytes);
         let payload = crate::judged::data_in(m);
-        let e = steps::receive::arrived(d, h, payload);
-        steps::transmit::sent(e)
+        let e = receive::arrived(d, h, payload);
+        transmit::sent(e)
     } else {
-        steps::transmit::sent(d)
+        transmit::sent(d)
     }
 }
 
@@ -171,7 +171,7 @@ fn pin_set(d: Device, level: bool) -> Device
     e
 }
 
-pub fn after(d: Device, e: Event, payload: [u8; 8]) -> Device
+pub(crate) fn after(d: Device, e: Event, payload: [u8; 8]) -> Device
     ensures { λ r. ⌜ r ≡ after d e payload ⌝ }
 {
     match e {
@@ -182,15 +182,15 @@ pub fn after(d: Device, e: Event, payload: [u8; 8]) -> Device
         Event::ReceiveError(kind) => error_received(d, kind),
         Event::DominantBit => dominant_met(d),
         Event::TransmitError(kind, counted) => error_sent(d, kind, counted),
-        Event::Begun => steps::transmit::begun(d),
+        Event::Begun => transmit::begun(d),
         Event::Completed => completed(d),
-        Event::ArbitrationLost => steps::transmit::stopped(d),
+        Event::ArbitrationLost => transmit::stopped(d),
         Event::ElevenRecessive => recessive_met(d),
-        Event::BusQuiet => steps::modes::bus_quiet(d),
-        Event::BusActivity => steps::modes::bus_activity(d),
+        Event::BusQuiet => modes::bus_quiet(d),
+        Event::BusActivity => modes::bus_activity(d),
         Event::Ticks(count) => ticked(d, count),
         Event::TxenPin(level) => pin_set(d, level),
-        Event::MasterReset => steps::reset(d),
+        Event::MasterReset => flags::reset(d),
         Event::Unknown => d,
     }
 }

@@ -1,6 +1,7 @@
 // Which events can't be, and what the others are answered.
 ghost use mathlib.Core.Path.{_≡_};
-ghost use Rattle.bus.specs.Judged.{quietMode, noErrors, runs, impossibleFrame, impossible, takesNoFrames, reason, echo, said};
+ghost use Rattle.bus.specs.Judged.{quietMode, noErrors, runs, impossibleFrame, impossible};
+ghost use Rattle.bus.specs.Judged.{takesNoFrames, unacknowledged, reason, echo, said};
 ghost use Rattle.frame.specs.Received.{dataIn};
 use crate::types::Answer;
 use crate::types::Event;
@@ -12,7 +13,7 @@ use chip::MONITOR;
 use chip::SLEEP;
 use fifo::Message;
 use frame::Header;
-use steps::receive::Arrival;
+use receive::Arrival;
 
 fn quiet_mode(acting: u8) -> bool
     ensures { λ r. ⌜ r ≡ quietMode acting ⌝ }
@@ -45,7 +46,7 @@ fn impossible_frame(h: Header, given: usize) -> bool
 }
 
 // 8: impossible fields, or an impossible time.
-pub fn impossible(d: Device, e: Event) -> bool
+pub(crate) fn impossible(d: Device, e: Event) -> bool
     ensures { λ r. ⌜ r ≡ impossible d e ⌝ }
 {
     match e {
@@ -59,7 +60,7 @@ pub fn impossible(d: Device, e: Event) -> bool
                 true
             }
         }
-        Event::Begun => !steps::transmit::can_begin(d),
+        Event::Begun => !transmit::can_begin(d),
         Event::Completed => !runs(d),
         Event::ArbitrationLost => !runs(d),
         Event::ElevenRecessive => false,
@@ -78,29 +79,35 @@ fn takes_no_frames(acting: u8) -> bool
     if quiet_mode(acting) { true } else { acting == LOOPBACK }
 }
 
+// A monitor acknowledges nothing, so it takes what another node did.
+fn unacknowledged(acting: u8, acknowledged: bool) -> bool
+    ensures { λ r. ⌜ r ≡ unacknowledged acting acknowledged ⌝ }
+{
+    if acting == MONITOR { !acknowledged } else { false }
+}
+
 // What becomes of a good frame from the bus: the first reason that holds.
-pub fn reason(d: Device, h: Header, acknowledged: bool, payload: [u8; 8]) -> Arrival
+pub(crate) fn reason(d: Device, h: Header, acknowledged: bool, payload: [u8; 8]) -> Arrival
     ensures { λ r. ⌜ r ≡ reason d h acknowledged payload ⌝ }
 {
-    let acting = d.acting;
-    let busoff = d.counters.busoff;
-    if takes_no_frames(acting) {
+    let deaf = takes_no_frames(d.acting);
+    let off = d.counters.busoff;
+    let alone = unacknowledged(d.acting, acknowledged);
+    let what = receive::reason(d, h, payload);
+    if deaf {
         return Arrival::A1;
     }
-    if busoff {
+    if off {
         return Arrival::A2;
     }
-    if acting == MONITOR {
-        if acknowledged {
-            return steps::receive::reason(d, h, payload);
-        }
+    if alone {
         return Arrival::A3;
     }
-    steps::receive::reason(d, h, payload)
+    what
 }
 
 // A message's eight data bytes.
-pub fn data_in(m: Message) -> [u8; 8]
+pub(crate) fn data_in(m: Message) -> [u8; 8]
     ensures { λ r. ⌜ r ≡ dataIn (m .bytes) ⌝ }
 {
     let b = m.bytes;
@@ -117,13 +124,13 @@ fn echo(d: Device) -> Answer
         let bytes = m.bytes;
         let h = frame::header_in(bytes);
         let payload = data_in(m);
-        Answer::Arrived(steps::receive::reason(d, h, payload))
+        Answer::Arrived(receive::reason(d, h, payload))
     } else {
         Answer::Done
     }
 }
 
-pub fn said(d: Device, e: Event, payload: [u8; 8]) -> Answer
+pub(crate) fn said(d: Device, e: Event, payload: [u8; 8]) -> Answer
     ensures { λ r. ⌜ r ≡ said d e payload ⌝ }
 {
     match e {

@@ -57,9 +57,9 @@ pub fn pins(d: Device) -> Pins
     ensures { λ r. ⌜ r ≡ pins d ⌝ }
 {
     let gpine = d.regs.gpine;
-    let int = chip::int(d);
-    let stat = chip::stat(d);
-    let gp1 = chip::gp(d, gpine % 16);
-    let gp2 = chip::gp(d, gpine / 16);
+    let int = drawn::int(d);
+    let stat = drawn::stat(d);
+    let gp1 = drawn::gp(d, gpine % 16);
+    let gp2 = drawn::gp(d, gpine / 16);
     Pins { int, stat, gp1, gp2 }
 }

@@ -1,7 +1,7 @@
 // The events of the bus, and what they are answered.
 use chip::Device;
 use frame::Header;
-use steps::receive::Arrival;
+use receive::Arrival;
 
 // What went wrong on the bus, by ERR's bits 0 to 4.
 pub enum ErrorKind {

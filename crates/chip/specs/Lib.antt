@@ -1,4 +1,3 @@
 pub mod Parts
 pub mod State
 pub mod Proper
-pub mod Drawn

@@ -5,11 +5,11 @@ use lib.ListN.{length, take}
 use Rattle.base.specs.Put.{putOf}
 use Rattle.chip.specs.declared.Device.{Device}
 use Rattle.host.specs.declared.Outcome.{Outcome}
-use Rattle.host.specs.declared.refused.Verdict.{Verdict}
-use Rattle.host.specs.declared.refused.Verdict.the-variants.{Refused, Accepted}
-use Rattle.host.specs.Refused.{judged}
-use Rattle.host.specs.Shown.{shows}
-use Rattle.host.specs.Done.{does}
+use Rattle.refused.specs.declared.Verdict.{Verdict}
+use Rattle.refused.specs.declared.Verdict.the-variants.{Refused, Accepted}
+use Rattle.refused.specs.Refused.{judged}
+use Rattle.shown.specs.Shown.{shows}
+use Rattle.done.specs.Done.{does}
 
 -- "A refusal leaves device and reply buffer unchanged."
 abbrev pub outcome : Device → List ℕ → Verdict → Outcome

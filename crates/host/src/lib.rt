@@ -5,10 +5,6 @@ ghost use Rattle.host.specs.Transfer.{transfer, replyAfter};
 use chip::Device;
 use refused::Verdict;
 
-mod done;
-mod refused;
-mod shown;
-
 pub struct Outcome {
     pub device: Device,
     // 0 where the transfer is done, else the first number that applies.

@@ -1,8 +1,8 @@
 -- `host::transfer` meets its contract. Assumes nothing.
-use Rattle.host.proofs.Accepted.{accepted-out}
+use Rattle.refused.proofs.Accepted.{accepted-out}
 use Rattle.host.specs.Transfer.{transfer, replyAfter}
-use Rattle.host.specs.Refused.{judged}
-use Rattle.host.specs.declared.refused.Verdict.the-variants.{Accepted}
+use Rattle.refused.specs.Refused.{judged}
+use Rattle.refused.specs.declared.Verdict.the-variants.{Accepted}
 use lib.ListN.{length, length-take}
 use native.Mathlib.Omega.{arith}
 use Prim.Native.Nat.{_≤_}

@@ -1,0 +1,22 @@
+-- `done::mask_written` meets its contract. Assumes nothing.
+use Rattle.done.specs.Done.{maskWritten}
+use Rattle.base.specs.Pick.{picks, judges}
+use borrow.Author.Needs.{needs}
+use Rattle.done.proofs.mask_written.Statement.{statement}
+use Rattle.done.proofs.mask_written.Tie as tie
+
+cast-place : tie.Need-cast-place
+cast-place c = search needs
+
+mul-masks : tie.Need-mul-masks
+mul-masks c = search needs
+
+array-set-from-masks : tie.Need-array-set-from-masks
+array-set-from-masks c = search needs
+
+returns : tie.Need-returns
+unfolding maskWritten
+returns c = search (picks, judges)
+
+pub mask-written-spec : {M : Type 1} → statement M
+mask-written-spec = tie.close (tie.spec cast-place mul-masks array-set-from-masks returns)

@@ -1,0 +1,16 @@
+-- `done::message_taken` meets its contract. Assumes nothing.
+use Rattle.done.specs.Done.{messageTaken}
+use Rattle.base.specs.Pick.{picks, judges}
+use borrow.Author.Needs.{needs}
+use Rattle.done.proofs.message_taken.Statement.{statement}
+use Rattle.done.proofs.message_taken.Tie as tie
+
+take-requires : tie.Need-take-requires
+take-requires c κs = search needs
+
+returns : tie.Need-returns
+unfolding messageTaken
+returns c = rw (← c .take .ensures) (search (picks, judges))
+
+pub message-taken-spec : {M : Type 1} → statement M
+message-taken-spec = tie.close (tie.spec take-requires returns)

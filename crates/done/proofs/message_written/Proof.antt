@@ -1,0 +1,46 @@
+-- `done::message_written` meets its contract. Assumes nothing.
+use borrow.Rule.Slice.PartAt.{part-to-end}
+use Rattle.done.specs.Done.{messageWritten}
+use Rattle.base.specs.Pick.{picks, judges}
+use borrow.Author.Needs.{needs}
+use Rattle.done.proofs.message_written.Statement.{statement}
+use Rattle.done.proofs.message_written.Tie as tie
+
+returns : tie.Need-returns
+unfolding messageWritten
+returns c = search (picks, judges)
+
+sub-read-message : tie.Need-sub-read-message
+sub-read-message c = search needs
+
+part-read-message-start : tie.Need-part-read-message-start
+part-read-message-start c = search needs
+
+part-read-message-end : tie.Need-part-read-message-end
+part-read-message-end c = search needs
+
+read-message-requires : tie.Need-read-message-requires
+read-message-requires c κs = search needs
+
+stored-requires : tie.Need-stored-requires
+stored-requires c κs = search needs
+
+put-requires : tie.Need-put-requires
+put-requires c κs = search needs
+
+returns-2 : tie.Need-returns-2
+unfolding messageWritten
+returns-2 c = rw (c .put .ensures, c .before .before .stored .ensures, c .before .before .before .before .read-message .ensures, part-to-end (c .before .before .before .before .before .before .before .before .args .bytes .now) 1) (search (picks, c .before .before .before .before .before .before .if1 .left))
+
+pub message-written-spec : {M : Type 1} → statement M
+message-written-spec =
+    tie.close
+    (tie.spec
+    returns
+    sub-read-message
+    part-read-message-start
+    part-read-message-end
+    read-message-requires
+    stored-requires
+    put-requires
+    returns-2)

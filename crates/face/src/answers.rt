@@ -1,0 +1,130 @@
+// The answer to one line.
+use crate::device;
+use crate::text::bytes;
+use crate::text::decimal;
+use crate::text::pin;
+use crate::text::put;
+use crate::text::text;
+use bus::types::Answer;
+use bus::types::Event;
+use chip::Device;
+use line::Asked;
+use line::Expected;
+use receive::Arrival;
+
+// The device after a line, and the place after its answer.
+pub struct Turn {
+    pub device: Device,
+    pub used: usize,
+}
+
+// What was expected, so that a person knows what to write.
+fn expected(out: &mut [u8], at: usize, e: Expected) -> usize {
+    match e {
+        Expected::Request => text(
+            out,
+            at,
+            b"spi, frame, rxerr, txerr, dominant, begin, done, lost, recessive, quiet, activity, mr, ticks, txen or pins",
+        ),
+        Expected::Byte => text(out, at, b"a byte as two hex digits, as 0A"),
+        Expected::Room => text(out, at, b"a reply buffer of 0 to 16 bytes, as spi/14"),
+        Expected::Identifier => text(out, at, b"an identifier in hex, as 123"),
+        Expected::StdOrExt => text(out, at, b"std or ext"),
+        Expected::DataOrRemote => text(out, at, b"data or remote"),
+        Expected::LengthCode => text(out, at, b"a length code in decimal, as 8"),
+        Expected::AckOrNoack => text(out, at, b"ack or noack"),
+        Expected::Error => text(out, at, b"stuff, ack, crc, form or bit"),
+        Expected::CountedOrExempt => text(out, at, b"counted or exempt"),
+        Expected::Count => text(out, at, b"a number of ticks in decimal, as 70000"),
+        Expected::ZeroOrOne => text(out, at, b"0 or 1"),
+        Expected::EndOfLine => text(out, at, b"the end of the line"),
+    }
+}
+
+fn complaint(out: &mut [u8], at: usize, number: u64) -> usize {
+    let n = text(out, at, b"? line ");
+    let n = decimal(out, n, number);
+    text(out, n, b": expected ")
+}
+
+pub fn too_long(out: &mut [u8], at: usize, number: u64) -> usize {
+    let n = complaint(out, at, number);
+    text(out, n, b"a line of at most 65536 bytes\n")
+}
+
+fn unreadable(out: &mut [u8], at: usize, number: u64, e: Expected) -> usize {
+    let n = complaint(out, at, number);
+    let n = expected(out, n, e);
+    put(out, n, b'\n')
+}
+
+fn transfer(d: Device, sent: [u8; 16], count: usize, room: u8, out: &mut [u8], at: usize) -> Turn {
+    let t = device::transfer(d, sent, count, room);
+    let device = t.device;
+    let reply = t.reply;
+    let n = decimal(out, at, t.number as u64);
+    let n = bytes(out, n, reply, t.count);
+    let used = put(out, n, b'\n');
+    Turn { device, used }
+}
+
+fn arrived(out: &mut [u8], at: usize, what: Arrival) -> usize {
+    match what {
+        Arrival::Queued => text(out, at, b"0 Queued"),
+        Arrival::A1 => text(out, at, b"0 A1"),
+        Arrival::A2 => text(out, at, b"0 A2"),
+        Arrival::A3 => text(out, at, b"0 A3"),
+        Arrival::A4 => text(out, at, b"0 A4"),
+        Arrival::A5 => text(out, at, b"0 A5"),
+    }
+}
+
+fn said(out: &mut [u8], at: usize, a: Answer) -> usize {
+    match a {
+        Answer::Refused(n) => decimal(out, at, n as u64),
+        Answer::Done => text(out, at, b"0"),
+        Answer::Arrived(what) => arrived(out, at, what),
+    }
+}
+
+fn happens(d: Device, event: Event, payload: [u8; 16], out: &mut [u8], at: usize) -> Turn {
+    let o = device::happens(d, event, payload);
+    let device = o.device;
+    let a = o.answer;
+    let n = said(out, at, a);
+    let used = put(out, n, b'\n');
+    Turn { device, used }
+}
+
+fn pins(d: Device, out: &mut [u8], at: usize) -> usize {
+    let p = bus::pins(d);
+    let n = pin(out, at, b"int=", p.int);
+    let n = pin(out, n, b" stat=", p.stat);
+    let n = pin(out, n, b" gp1=", p.gp1);
+    let n = pin(out, n, b" gp2=", p.gp2);
+    put(out, n, b'\n')
+}
+
+// A blank line has no answer.
+pub fn answer(d: Device, line: &[u8], number: u64, out: &mut [u8], at: usize) -> Turn {
+    let l = line::read_line(line);
+    let asked = l.asked;
+    let given = l.bytes;
+    let count = l.count;
+    match asked {
+        Asked::Nothing => Turn {
+            device: d,
+            used: at,
+        },
+        Asked::Transfer(room) => transfer(d, given, count, room, out, at),
+        Asked::Happens(event) => happens(d, event, given, out, at),
+        Asked::Pins => {
+            let used = pins(d, out, at);
+            Turn { device: d, used }
+        }
+        Asked::Unreadable(e) => {
+            let used = unreadable(out, at, number, e);
+            Turn { device: d, used }
+        }
+    }
+}

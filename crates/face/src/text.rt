@@ -1,0 +1,65 @@
+// Text at a place of the buffer of answers. Each function gives back the place after it. What finds no room is left out;
+// the buffer is written before that can happen.
+pub fn put(out: &mut [u8], at: usize, b: u8) -> usize {
+    if at < out.len() {
+        out[at] = b;
+        at + 1
+    } else {
+        at
+    }
+}
+
+pub fn text(out: &mut [u8], at: usize, t: &[u8]) -> usize {
+    let mut n = at;
+    let mut i: usize = 0;
+    while i < t.len() {
+        n = put(out, n, t[i]);
+        i += 1;
+    }
+    n
+}
+
+pub fn decimal(out: &mut [u8], at: usize, n: u64) -> usize {
+    let mut digits = [0u8; 20];
+    let k = io::decimal(n, &mut digits);
+    text(out, at, &digits[..k])
+}
+
+// A digit of base 16, upper case.
+fn digit(d: u8) -> u8 {
+    if d < 10 {
+        b'0' + d
+    } else {
+        b'A' + (d - 10) % 6
+    }
+}
+
+pub fn hex(out: &mut [u8], at: usize, b: u8) -> usize {
+    let n = put(out, at, digit(b / 16));
+    put(out, n, digit(b % 16))
+}
+
+// A space before each byte.
+pub fn bytes(out: &mut [u8], at: usize, b: [u8; 16], count: usize) -> usize {
+    let mut n = at;
+    let mut i: usize = 0;
+    while i < 16 {
+        if count <= i {
+            return n;
+        }
+        n = put(out, n, b' ');
+        n = hex(out, n, b[i]);
+        i += 1;
+    }
+    n
+}
+
+// A name and a level, as `int=1`.
+pub fn pin(out: &mut [u8], at: usize, name: &[u8], high: bool) -> usize {
+    let n = text(out, at, name);
+    if high {
+        put(out, n, b'1')
+    } else {
+        put(out, n, b'0')
+    }
+}

@@ -1,0 +1,88 @@
+-- The requests of the protocol's table, read by the rules, by computation.
+use mathlib.Core.Path.{_≡_, refl}
+use mathlib.Core.Bool.{true, false}
+use mathlib.Core.List.{List, [], _∷_, map}
+use Prim.Native.String.{String}
+use Rattle.bus.specs.declared.types.ErrorKind.the-variants.{Crc, Form}
+use Rattle.bus.specs.declared.types.Event.the-variants.{GoodFrame, ReceiveError, TransmitError, ElevenRecessive, Ticks, TxenPin}
+use Rattle.line.specs.declared.Asked.{Asked}
+use Rattle.line.specs.declared.Asked.the-variants.{Nothing, Transfer, Happens, Pins, Unreadable}
+use Rattle.line.specs.declared.Expected.the-variants.{Request, Byte, Room, Identifier, StdOrExt, AckOrNoack, CountedOrExempt, EndOfLine}
+use Rattle.line.specs.Numbers.{digitOf, isNumber, valueOf, isByte}
+use Rattle.line.specs.Text.{ascii}
+use Rattle.line.specs.Request.{
+  plain,
+  withData,
+  ending,
+  choiceOf,
+  transferOf,
+  sizedOf,
+  frameData,
+  frameAck,
+  frameCode,
+  frameRemote,
+  frameKind,
+  frameOf,
+  kindOf,
+  rxerrOf,
+  txerrCounted,
+  txerrOf,
+  ticksOf,
+  txenOf,
+  aloneOf,
+  loneOf,
+  namedOf,
+  requestOf,
+  readLine,
+}
+
+abbrev pub lines : List String
+lines =
+    "spi 12 07 24 60 02 AA 55" ∷
+    "spi/14 48 # the reply buffer has 14 bytes" ∷
+    "spi" ∷
+    "frame 123 std data 2 ack AA 55" ∷
+    "frame 1fffffff ext remote 15 noack" ∷
+    "rxerr crc" ∷
+    "txerr form exempt" ∷
+    "recessive" ∷
+    "ticks 70000" ∷
+    "txen 1" ∷
+    "  pins\t\r" ∷
+    "" ∷
+    "# nothing" ∷
+    "Pins" ∷
+    "spi 1" ∷
+    "spi/17" ∷
+    "frame" ∷
+    "frame 1 standard" ∷
+    "frame 1 std data 0 nack" ∷
+    "txerr form" ∷
+    "pins 1" ∷
+    []
+
+pub worked : map (λ (t : String). readLine (ascii t)) lines
+    ≡ withData (Transfer 16) (0x12 ∷ 0x07 ∷ 0x24 ∷ 0x60 ∷ 0x02 ∷ 0xAA ∷ 0x55 ∷ []) ∷
+    withData (Transfer 14) (0x48 ∷ []) ∷
+    withData (Transfer 16) [] ∷
+    withData (Happens (GoodFrame (record { id = 0x123; extended = false; remote = false; code = 2 }) true 2)) (0xAA ∷ 0x55 ∷ []) ∷
+    plain (Happens (GoodFrame (record { id = 0x1FFFFFFF; extended = true; remote = true; code = 15 }) false 0)) ∷
+    plain (Happens (ReceiveError Crc)) ∷
+    plain (Happens (TransmitError Form false)) ∷
+    plain (Happens ElevenRecessive) ∷
+    plain (Happens (Ticks 4464)) ∷
+    plain (Happens (TxenPin true)) ∷
+    plain Pins ∷
+    plain Nothing ∷
+    plain Nothing ∷
+    plain (Unreadable Request) ∷
+    plain (Unreadable Byte) ∷
+    plain (Unreadable Room) ∷
+    plain (Unreadable Identifier) ∷
+    plain (Unreadable StdOrExt) ∷
+    plain (Unreadable AckOrNoack) ∷
+    plain (Unreadable CountedOrExempt) ∷
+    plain (Unreadable EndOfLine) ∷
+    []
+unfolding digitOf isNumber valueOf isByte ending choiceOf transferOf sizedOf frameData frameAck frameCode frameRemote frameKind frameOf kindOf rxerrOf txerrCounted txerrOf ticksOf txenOf aloneOf loneOf namedOf requestOf readLine
+worked = refl

@@ -1,0 +1,254 @@
+-- `line::requests::named` meets its contract. Assumes nothing.
+use mathlib.Core.Path.{_≡_, sym, _∙_}
+use mathlib.Core.Bool.{false}
+use mathlib.Core.List.{List}
+use Prim.Native.Nat.{ℕ}
+use Rattle.base.specs.Pick.{pick-yes, pick-no}
+use Rattle.line.specs.Text.{ascii}
+use Rattle.line.specs.Words.{same}
+use Rattle.line.specs.Request.{namedOf}
+use lib.ListN.{take}
+use borrow.Rule.Slice.PartAt.{part-to-end}
+use Rattle.line.proofs.Runs.{begins-long}
+use borrow.Author.Needs.{needs}
+use Rattle.line.proofs.requests.named.Statement.{statement}
+use Rattle.line.proofs.requests.named.Tie as tie
+
+abbrev word-1 : tie.Else1 → List ℕ
+word-1 c = c .before .before .before .before .before .args .word .now
+
+not-1 : (c : tie.Else1) → same (word-1 c) (ascii "spi") ≡ false
+not-1 c = sym (c .before .is .ensures) ∙ c .if1 .left
+
+abbrev else-1 : tie.Else2 → tie.Else1
+else-1 c = c .before .before
+
+abbrev word-2 : tie.Else2 → List ℕ
+word-2 c = word-1 (else-1 c)
+
+not-2 : (c : tie.Else2) → same (take 4 (word-2 c)) (ascii "spi/") ≡ false
+not-2 c = sym (c .before .is-sized .ensures) ∙ c .if2 .left
+
+abbrev else-2 : tie.Else3 → tie.Else2
+else-2 c = c .before .before .before
+
+abbrev word-3 : tie.Else3 → List ℕ
+word-3 c = word-2 (else-2 c)
+
+not-3 : (c : tie.Else3) → same (word-3 c) (ascii "frame") ≡ false
+not-3 c = sym (c .before .is2 .ensures) ∙ c .if3 .left
+
+abbrev else-3 : tie.Else4 → tie.Else3
+else-3 c = c .before .before .before
+
+abbrev word-4 : tie.Else4 → List ℕ
+word-4 c = word-3 (else-3 c)
+
+not-4 : (c : tie.Else4) → same (word-4 c) (ascii "rxerr") ≡ false
+not-4 c = sym (c .before .is3 .ensures) ∙ c .if4 .left
+
+abbrev else-4 : tie.Else5 → tie.Else4
+else-4 c = c .before .before .before
+
+abbrev word-5 : tie.Else5 → List ℕ
+word-5 c = word-4 (else-4 c)
+
+not-5 : (c : tie.Else5) → same (word-5 c) (ascii "txerr") ≡ false
+not-5 c = sym (c .before .is4 .ensures) ∙ c .if5 .left
+
+abbrev else-5 : tie.Else6 → tie.Else5
+else-5 c = c .before .before .before
+
+abbrev word-6 : tie.Else6 → List ℕ
+word-6 c = word-5 (else-5 c)
+
+not-6 : (c : tie.Else6) → same (word-6 c) (ascii "ticks") ≡ false
+not-6 c = sym (c .before .is5 .ensures) ∙ c .if6 .left
+
+abbrev else-6 : tie.Else7 → tie.Else6
+else-6 c = c .before .before .before
+
+abbrev word-7 : tie.Else7 → List ℕ
+word-7 c = word-6 (else-6 c)
+
+not-7 : (c : tie.Else7) → same (word-7 c) (ascii "txen") ≡ false
+not-7 c = sym (c .before .is6 .ensures) ∙ c .if7 .left
+
+slice-aggregate-is : tie.Need-slice-aggregate-is
+slice-aggregate-is c = search needs
+
+is-requires : tie.Need-is-requires
+is-requires c κs = search needs
+
+transfer-requires : tie.Need-transfer-requires
+transfer-requires c κs = search needs
+
+is-sized-requires : tie.Need-is-sized-requires
+is-sized-requires c κs = search needs
+
+sub-sized : tie.Need-sub-sized
+sub-sized c =
+    begins-long (c .before .before .before .before .before .before .before .args .word .now) (ascii "spi/")
+    (sym (c .before .is-sized .ensures) ∙ c .if2 .taken)
+
+part-sized-start : tie.Need-part-sized-start
+part-sized-start c =
+    begins-long (c .before .before .before .before .before .before .before .args .word .now) (ascii "spi/")
+    (sym (c .before .is-sized .ensures) ∙ c .if2 .taken)
+
+part-sized-end : tie.Need-part-sized-end
+part-sized-end c = search needs
+
+sized-requires : tie.Need-sized-requires
+sized-requires c κs = search needs
+
+slice-aggregate-is-2 : tie.Need-slice-aggregate-is-2
+slice-aggregate-is-2 c = search needs
+
+is-requires-2 : tie.Need-is-requires-2
+is-requires-2 c κs = search needs
+
+frame-requires : tie.Need-frame-requires
+frame-requires c κs = search needs
+
+slice-aggregate-is-3 : tie.Need-slice-aggregate-is-3
+slice-aggregate-is-3 c = search needs
+
+is-requires-3 : tie.Need-is-requires-3
+is-requires-3 c κs = search needs
+
+rxerr-requires : tie.Need-rxerr-requires
+rxerr-requires c κs = search needs
+
+slice-aggregate-is-4 : tie.Need-slice-aggregate-is-4
+slice-aggregate-is-4 c = search needs
+
+is-requires-4 : tie.Need-is-requires-4
+is-requires-4 c κs = search needs
+
+txerr-requires : tie.Need-txerr-requires
+txerr-requires c κs = search needs
+
+slice-aggregate-is-5 : tie.Need-slice-aggregate-is-5
+slice-aggregate-is-5 c = search needs
+
+is-requires-5 : tie.Need-is-requires-5
+is-requires-5 c κs = search needs
+
+ticks-requires : tie.Need-ticks-requires
+ticks-requires c κs = search needs
+
+slice-aggregate-is-6 : tie.Need-slice-aggregate-is-6
+slice-aggregate-is-6 c = search needs
+
+is-requires-6 : tie.Need-is-requires-6
+is-requires-6 c κs = search needs
+
+txen-requires : tie.Need-txen-requires
+txen-requires c κs = search needs
+
+lone-requires : tie.Need-lone-requires
+lone-requires c κs = search needs
+
+returns : tie.Need-returns
+unfolding namedOf
+returns c = pick-yes _ _ _ _ _ (sym (c .before .before .is .ensures) ∙ c .before .if1 .taken) (c .transfer .ensures)
+
+returns-2 : tie.Need-returns-2
+unfolding namedOf
+returns-2 c =
+    pick-no _ _ _ _ _ (not-1 (c .before .before .before .before))
+    (pick-yes _ _ _ _ _ (sym (c .before .before .before .is-sized .ensures) ∙ c .before .before .if2 .taken) (c .sized .ensures ∙ rw (part-to-end (word-1 (c .before .before .before .before)) 4)))
+
+returns-3 : tie.Need-returns-3
+unfolding namedOf
+returns-3 c =
+    pick-no _ _ _ _ _ (not-1 (else-1 (c .before .before .before .before)))
+    (pick-no _ _ _ _ _ (not-2 (c .before .before .before .before))
+    (pick-yes _ _ _ _ _ (sym (c .before .before .is2 .ensures) ∙ c .before .if3 .taken) (c .frame .ensures)))
+
+returns-4 : tie.Need-returns-4
+unfolding namedOf
+returns-4 c =
+    pick-no _ _ _ _ _ (not-1 (else-1 (else-2 (c .before .before .before .before))))
+    (pick-no _ _ _ _ _ (not-2 (else-2 (c .before .before .before .before)))
+    (pick-no _ _ _ _ _ (not-3 (c .before .before .before .before))
+    (pick-yes _ _ _ _ _ (sym (c .before .before .is3 .ensures) ∙ c .before .if4 .taken) (c .rxerr .ensures))))
+
+returns-5 : tie.Need-returns-5
+unfolding namedOf
+returns-5 c =
+    pick-no _ _ _ _ _ (not-1 (else-1 (else-2 (else-3 (c .before .before .before .before)))))
+    (pick-no _ _ _ _ _ (not-2 (else-2 (else-3 (c .before .before .before .before))))
+    (pick-no _ _ _ _ _ (not-3 (else-3 (c .before .before .before .before)))
+    (pick-no _ _ _ _ _ (not-4 (c .before .before .before .before))
+    (pick-yes _ _ _ _ _ (sym (c .before .before .is4 .ensures) ∙ c .before .if5 .taken) (c .txerr .ensures)))))
+
+returns-6 : tie.Need-returns-6
+unfolding namedOf
+returns-6 c =
+    pick-no _ _ _ _ _ (not-1 (else-1 (else-2 (else-3 (else-4 (c .before .before .before .before))))))
+    (pick-no _ _ _ _ _ (not-2 (else-2 (else-3 (else-4 (c .before .before .before .before)))))
+    (pick-no _ _ _ _ _ (not-3 (else-3 (else-4 (c .before .before .before .before))))
+    (pick-no _ _ _ _ _ (not-4 (else-4 (c .before .before .before .before)))
+    (pick-no _ _ _ _ _ (not-5 (c .before .before .before .before))
+    (pick-yes _ _ _ _ _ (sym (c .before .before .is5 .ensures) ∙ c .before .if6 .taken) (c .ticks .ensures))))))
+
+returns-7 : tie.Need-returns-7
+unfolding namedOf
+returns-7 c =
+    pick-no _ _ _ _ _ (not-1 (else-1 (else-2 (else-3 (else-4 (else-5 (c .before .before .before .before)))))))
+    (pick-no _ _ _ _ _ (not-2 (else-2 (else-3 (else-4 (else-5 (c .before .before .before .before))))))
+    (pick-no _ _ _ _ _ (not-3 (else-3 (else-4 (else-5 (c .before .before .before .before)))))
+    (pick-no _ _ _ _ _ (not-4 (else-4 (else-5 (c .before .before .before .before))))
+    (pick-no _ _ _ _ _ (not-5 (else-5 (c .before .before .before .before)))
+    (pick-no _ _ _ _ _ (not-6 (c .before .before .before .before))
+    (pick-yes _ _ _ _ _ (sym (c .before .before .is6 .ensures) ∙ c .before .if7 .taken) (c .txen .ensures)))))))
+
+returns-8 : tie.Need-returns-8
+unfolding namedOf
+returns-8 c =
+    pick-no _ _ _ _ _ (not-1 (else-1 (else-2 (else-3 (else-4 (else-5 (else-6 (c .before))))))))
+    (pick-no _ _ _ _ _ (not-2 (else-2 (else-3 (else-4 (else-5 (else-6 (c .before)))))))
+    (pick-no _ _ _ _ _ (not-3 (else-3 (else-4 (else-5 (else-6 (c .before))))))
+    (pick-no _ _ _ _ _ (not-4 (else-4 (else-5 (else-6 (c .before)))))
+    (pick-no _ _ _ _ _ (not-5 (else-5 (else-6 (c .before))))
+    (pick-no _ _ _ _ _ (not-6 (else-6 (c .before)))
+    (pick-no _ _ _ _ _ (not-7 (c .before)) (c .lone .ensures)))))))
+
+pub named-spec : {M : Type 1} → statement M
+named-spec =
+    tie.close
+    (tie.spec
+    slice-aggregate-is
+    is-requires
+    transfer-requires
+    is-sized-requires
+    sub-sized
+    part-sized-start
+    part-sized-end
+    sized-requires
+    slice-aggregate-is-2
+    is-requires-2
+    frame-requires
+    slice-aggregate-is-3
+    is-requires-3
+    rxerr-requires
+    slice-aggregate-is-4
+    is-requires-4
+    txerr-requires
+    slice-aggregate-is-5
+    is-requires-5
+    ticks-requires
+    slice-aggregate-is-6
+    is-requires-6
+    txen-requires
+    lone-requires
+    returns
+    returns-2
+    returns-3
+    returns-4
+    returns-5
+    returns-6
+    returns-7
+    returns-8)

@@ -1,0 +1,65 @@
+-- `line::words::start` meets its contract. The loop's invariant: what is left has the rest of the run. Assumes nothing.
+use Prim.Native.Nat.{_≤_, _-_, _+_}
+use mathlib.Core.Path.{_≡_, refl, sym, _∙_}
+use lib.ListN.{length, drop, drop-of-length-le}
+use native.Mathlib.Nat.{add-zero}
+use Rattle.line.specs.Words.{isBlank, blanks}
+use Rattle.line.proofs.Runs.{run-on, run-here}
+use borrow.Author.Needs.{needs}
+use native.Mathlib.Omega.{arith}
+use Rattle.line.proofs.words.start.Statement.{statement}
+use Rattle.line.proofs.words.start.Tie as tie
+
+abbrev Inv-loop : tie.InvT-loop
+Inv-loop s at i₀ i = (i ≤ length s) × (i + blanks (drop i s) ≡ at + blanks (drop at s))
+
+abbrev μ-loop : tie.MeasureT-loop
+μ-loop s at i₀ i = length s - i
+
+loop-holds : tie.Need-loop-holds Inv-loop μ-loop
+loop-holds c = (search needs, refl)
+
+shared-slice-read-is-blank : tie.Need-shared-slice-read-is-blank Inv-loop μ-loop
+shared-slice-read-is-blank c = search needs
+
+is-blank-requires : tie.Need-is-blank-requires Inv-loop μ-loop
+is-blank-requires c κs = search needs
+
+add-i : tie.Need-add-i Inv-loop μ-loop
+add-i c = search needs
+
+loop-less : tie.Need-loop-less Inv-loop μ-loop
+loop-less c = search needs
+
+loop-again : tie.Need-loop-again Inv-loop μ-loop
+loop-again c =
+    let l = c .before .before .before .before .loop in
+    let s = c .before .before .before .before .before .before .args .s .now in
+    (omega arith, run-on isBlank s (l .i) (omega arith) ((sym (c .before .is-blank .ensures) ∙ c .if1 .taken)) ∙ l .inv .1)
+
+returns : tie.Need-returns Inv-loop μ-loop
+returns c =
+    let l = c .before .before .before .before .loop in
+    let s = c .before .before .before .before .before .before .args .s .now in
+    run-here isBlank s (l .i) (omega arith) ((sym (c .before .is-blank .ensures) ∙ c .if1 .left)) ∙ l .inv .1
+
+returns-2 : tie.Need-returns-2 Inv-loop μ-loop
+returns-2 c =
+    let l = c .before .loop in
+    let s = c .before .before .before .args .s .now in
+    sym (add-zero (l .i)) ∙ rw (drop-of-length-le s {i = l .i} (omega arith)) at (l .inv .1)
+
+pub start-spec : {M : Type 1} → statement M
+start-spec =
+    tie.close
+    (tie.spec
+    Inv-loop
+    μ-loop
+    loop-holds
+    shared-slice-read-is-blank
+    is-blank-requires
+    add-i
+    loop-less
+    loop-again
+    returns
+    returns-2)

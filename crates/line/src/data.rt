@@ -1,0 +1,68 @@
+// The data of a request: the bytes that its last words spell.
+ghost use mathlib.Core.Path.{_≡_};
+ghost use Prim.Native.Nat.{_≤_};
+ghost use lib.ListN.{length, drop};
+ghost use Rattle.line.specs.Words.{wordsOf};
+ghost use Rattle.line.specs.Data.{dataOf, keepOf, noData};
+use crate::numbers::byte;
+use crate::numbers::is_byte;
+use crate::words::word;
+
+pub struct Data {
+    // Every word is a byte.
+    pub good: bool,
+    pub bytes: [u8; 16],
+    pub count: usize,
+}
+
+// One byte more, where there is room.
+fn keep(d: Data, b: u8) -> Data
+    ensures { λ r. ⌜ r ≡ keepOf d b ⌝ }
+{
+    let count = d.count;
+    if count < 16 {
+        let mut e = d;
+        e.bytes[count] = b;
+        e.count = count + 1;
+        e
+    } else {
+        d
+    }
+}
+
+fn no_data() -> Data
+    ensures { λ r. ⌜ r ≡ noData ⌝ }
+{
+    Data {
+        good: false,
+        bytes: [0u8; 16],
+        count: 0,
+    }
+}
+
+// The bytes of every word from `at` on.
+pub(crate) fn gather(s: &[u8], at: usize) -> Data
+    requires { ⌜ at ≤ length (now s) ⌝ }
+    ensures { λ r. ⌜ r ≡ dataOf (wordsOf (drop at (now (s .entry)))) ⌝ }
+{
+    let mut d = Data {
+        good: true,
+        bytes: [0u8; 16],
+        count: 0,
+    };
+    let mut i = at;
+    loop {
+        let w = word(s, i);
+        let from = w.from;
+        let to = w.to;
+        if from == to {
+            return d;
+        }
+        if is_byte(&s[from..to]) {
+            d = keep(d, byte(&s[from..to]));
+            i = to;
+        } else {
+            return no_data();
+        }
+    }
+}

@@ -1,0 +1,53 @@
+// A line of `face`'s script as a request: the words, the numbers and the requests of the protocol, for every line of bytes
+// of any length.
+mod data;
+mod numbers;
+mod requests;
+mod words;
+
+use bus::types::Event;
+ghost use mathlib.Core.Path.{_≡_};
+ghost use Rattle.line.specs.Request.{readLine};
+
+// What was expected at the place where a line can't be read.
+pub enum Expected {
+    Request,
+    Byte,
+    Room,
+    Identifier,
+    StdOrExt,
+    DataOrRemote,
+    LengthCode,
+    AckOrNoack,
+    Error,
+    CountedOrExempt,
+    Count,
+    ZeroOrOne,
+    EndOfLine,
+}
+
+pub enum Asked {
+    // A blank line, or a comment.
+    Nothing,
+    // A transfer, with this many bytes in the reply buffer.
+    Transfer(u8),
+    Happens(Event),
+    Pins,
+    Unreadable(Expected),
+}
+
+pub struct Line {
+    pub asked: Asked,
+    // The bytes of the transfer or of the frame's data, then zeros. A frame's payload is the first eight.
+    pub bytes: [u8; 16],
+    // How many there are; no more than sixteen are kept or counted.
+    pub count: usize,
+}
+
+// What a line asks for; s has no newline.
+pub fn read_line(s: &[u8]) -> Line
+    ensures { λ r. ⌜ r ≡ readLine (now (s .entry)) ⌝ }
+{
+    let n = words::comment(s);
+    requests::request(&s[..n])
+}

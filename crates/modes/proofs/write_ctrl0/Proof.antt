@@ -1,0 +1,47 @@
+-- `modes::write_ctrl0` meets its contract. Assumes nothing.
+use Rattle.modes.specs.Modes.{writeCtrl0}
+use Rattle.base.specs.Pick.{picks, judges}
+use borrow.Author.Needs.{needs}
+use Rattle.modes.proofs.write_ctrl0.Statement.{statement}
+use Rattle.modes.proofs.write_ctrl0.Tie as tie
+
+mode-of-requires : tie.Need-mode-of-requires
+mode-of-requires c κs = search needs
+
+reset-requires : tie.Need-reset-requires
+reset-requires c κs = search needs
+
+returns : tie.Need-returns
+unfolding writeCtrl0
+returns c = rw (← c .before .before .before .mode-of .ensures, ← c .before .reset .ensures) (search (picks, judges, c .before .before .if1 .taken))
+
+returns-2 : tie.Need-returns-2
+unfolding writeCtrl0
+returns-2 c = rw (← c .before .before .before .mode-of .ensures) (search (picks, judges, c .if2 .taken, c .before .before .if1 .left))
+
+returns-3 : tie.Need-returns-3
+unfolding writeCtrl0
+returns-3 c = rw (← c .before .before .before .before .mode-of .ensures) (search (picks, judges, c .if3 .taken, c .before .if2 .left, c .before .before .before .if1 .left))
+
+stopped-requires : tie.Need-stopped-requires
+stopped-requires c κs = search needs
+
+changed-requires : tie.Need-changed-requires
+changed-requires c κs = search needs
+
+returns-4 : tie.Need-returns-4
+unfolding writeCtrl0
+returns-4 c = rw (← c .before .before .before .before .before .before .mode-of .ensures, ← c .before .stopped .ensures, ← c .changed .ensures) (search (picks, judges, c .before .before .if3 .left, c .before .before .before .if2 .left, c .before .before .before .before .before .if1 .left))
+
+pub write-ctrl0-spec : {M : Type 1} → statement M
+write-ctrl0-spec =
+    tie.close
+    (tie.spec
+    mode-of-requires
+    reset-requires
+    returns
+    returns-2
+    returns-3
+    stopped-requires
+    changed-requires
+    returns-4)

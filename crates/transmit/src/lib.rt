@@ -1,0 +1,166 @@
+// A transmission: when it may begin, its start, and each of its ends.
+ghost use mathlib.Core.Path.{_≡_};
+ghost use Rattle.transmit.specs.Transmit.{sends, canBegin, withoutTx1m, begun, stopped, aborted, cleared, stamped};
+ghost use Rattle.transmit.specs.Transmit.{ctrl1Begun, leftAlone, fifoAfter, countedCompletion, sent};
+use chip::ALONE;
+use chip::Device;
+use chip::FIRST;
+use chip::IDLE;
+use chip::LOOPBACK;
+use chip::MONITOR;
+use chip::NORMAL;
+use counters::Counters;
+use fifo::Fifo;
+use fifo::Message;
+
+fn sends(acting: u8) -> bool
+    ensures { λ r. ⌜ r ≡ sends acting ⌝ }
+{
+    if acting == NORMAL {
+        true
+    } else {
+        acting == LOOPBACK
+    }
+}
+
+// Whether a message may begin now.
+pub fn can_begin(d: Device) -> bool
+    ensures { λ r. ⌜ r ≡ canBegin d ⌝ }
+{
+    let sending = d.sending;
+    let waiting = d.tx.count;
+    let busoff = d.counters.busoff;
+    let acting = d.acting;
+    if sending == IDLE {
+        if waiting == 0 {
+            false
+        } else if chip::enabled(d) {
+            if sends(acting) { !busoff } else { false }
+        } else {
+            false
+        }
+    } else {
+        false
+    }
+}
+
+fn without_tx1m(ctrl1: u8) -> u8
+    ensures { λ r. ⌜ r ≡ withoutTx1m ctrl1 ⌝ }
+{
+    ctrl1 / 128 * 128 + ctrl1 % 64
+}
+
+fn ctrl1_begun(ctrl1: u8) -> u8
+    ensures { λ r. ⌜ r ≡ ctrl1Begun ctrl1 ⌝ }
+{
+    if (ctrl1 >> 5) % 2 == 1 {
+        without_tx1m(ctrl1)
+    } else {
+        ctrl1
+    }
+}
+
+// The first message of the FIFO is copied to the transmit buffer and runs.
+pub fn begun(d: Device) -> Device
+    ensures { λ r. ⌜ r ≡ begun d ⌝ }
+{
+    let tx = d.tx;
+    let m = fifo::next(tx);
+    let ctrl1 = ctrl1_begun(d.regs.ctrl1);
+    let mut e = d;
+    e.regs.ctrl1 = ctrl1;
+    e.buffer = m;
+    e.sending = FIRST;
+    e
+}
+
+// The running message ends unsent: it stays first in the FIFO, and is gone if 0x54 took it out.
+pub fn stopped(d: Device) -> Device
+    ensures { λ r. ⌜ r ≡ stopped d ⌝ }
+{
+    let mut e = d;
+    e.sending = IDLE;
+    e
+}
+
+// 0x52.
+pub fn aborted(d: Device) -> Device
+    ensures { λ r. ⌜ r ≡ aborted d ⌝ }
+{
+    let ctrl1 = d.regs.ctrl1 % 64;
+    let mut e = d;
+    e.regs.ctrl1 = ctrl1;
+    e.sending = IDLE;
+    e
+}
+
+fn left_alone(sending: u8) -> u8
+    ensures { λ r. ⌜ r ≡ leftAlone sending ⌝ }
+{
+    if sending == IDLE { IDLE } else { ALONE }
+}
+
+// 0x54.
+pub fn cleared(d: Device) -> Device
+    ensures { λ r. ⌜ r ≡ cleared d ⌝ }
+{
+    let ctrl1 = d.regs.ctrl1 % 64;
+    let none = fifo::empty();
+    let sending = left_alone(d.sending);
+    let mut e = d;
+    e.regs.ctrl1 = ctrl1;
+    e.tx = none;
+    e.sending = sending;
+    e
+}
+
+// A sent message with the time of its completion.
+fn stamped(m: Message, time: u16) -> Message
+    ensures { λ r. ⌜ r ≡ stamped m time ⌝ }
+{
+    let mut bytes = m.bytes;
+    bytes[1] = (time / 256) as u8;
+    bytes[2] = (time % 256) as u8;
+    Message { bytes }
+}
+
+fn fifo_after(tx: Fifo, sending: u8) -> Fifo
+    ensures { λ r. ⌜ r ≡ fifoAfter tx sending ⌝ }
+{
+    if sending == FIRST { fifo::take(tx) } else { tx }
+}
+
+fn counted_completion(c: Counters, acting: u8) -> Counters
+    ensures { λ r. ⌜ r ≡ countedCompletion c acting ⌝ }
+{
+    if acting == MONITOR {
+        c
+    } else {
+        counters::completed(c)
+    }
+}
+
+// The running message is sent.
+pub fn sent(d: Device) -> Device
+    ensures { λ r. ⌜ r ≡ sent d ⌝ }
+{
+    let waiting = d.tx;
+    let tx = fifo_after(waiting, d.sending);
+    let pair = d.counters;
+    let c = counted_completion(pair, d.acting);
+    let buffer = d.buffer;
+    let m = stamped(buffer, d.time);
+    let entries = d.history;
+    let history = fifo::put(entries, m);
+    let bytes = buffer.bytes;
+    let mtag = bytes[0] % 4;
+    let ctrl1 = without_tx1m(d.regs.ctrl1);
+    let mut e = d;
+    e.regs.ctrl1 = ctrl1;
+    e.regs.mtag = mtag;
+    e.counters = c;
+    e.tx = tx;
+    e.sending = IDLE;
+    e.history = history;
+    flags::raised(e, flags::TXCPLT)
+}
