@@ -18,7 +18,11 @@ use receive::Arrival;
 fn quiet_mode(acting: u8) -> bool
     ensures { λ r. ⌜ r ≡ quietMode acting ⌝ }
 {
-    if acting == INITIALIZATION { true } else { acting == SLEEP }
+    if acting == INITIALIZATION {
+        true
+    } else {
+        acting == SLEEP
+    }
 }
 
 // Where no error can be met.
@@ -53,13 +57,7 @@ pub(crate) fn impossible(d: Device, e: Event) -> bool
         Event::GoodFrame(h, _, given) => impossible_frame(h, given),
         Event::ReceiveError(_) => no_errors(d),
         Event::DominantBit => no_errors(d),
-        Event::TransmitError(_, _) => {
-            if runs(d) {
-                no_errors(d)
-            } else {
-                true
-            }
-        }
+        Event::TransmitError(_, _) => { if runs(d) { no_errors(d) } else { true } }
         Event::Begun => !transmit::can_begin(d),
         Event::Completed => !runs(d),
         Event::ArbitrationLost => !runs(d),
@@ -76,14 +74,22 @@ pub(crate) fn impossible(d: Device, e: Event) -> bool
 fn takes_no_frames(acting: u8) -> bool
     ensures { λ r. ⌜ r ≡ takesNoFrames acting ⌝ }
 {
-    if quiet_mode(acting) { true } else { acting == LOOPBACK }
+    if quiet_mode(acting) {
+        true
+    } else {
+        acting == LOOPBACK
+    }
 }
 
 // A monitor acknowledges nothing, so it takes what another node did.
 fn unacknowledged(acting: u8, acknowledged: bool) -> bool
     ensures { λ r. ⌜ r ≡ unacknowledged acting acknowledged ⌝ }
 {
-    if acting == MONITOR { !acknowledged } else { false }
+    if acting == MONITOR {
+        !acknowledged
+    } else {
+        false
+    }
 }
 
 // What becomes of a good frame from the bus: the first reason that holds.
@@ -134,7 +140,12 @@ pub(crate) fn said(d: Device, e: Event, payload: [u8; 8]) -> Answer
     ensures { λ r. ⌜ r ≡ said d e payload ⌝ }
 {
     match e {
-        Event::GoodFrame(h, acknowledged, _) => Answer::Arrived(reason(d, h, acknowledged, payload)),
+        Event::GoodFrame(h, acknowledged, _) => Answer::Arrived(reason(
+            d,
+            h,
+            acknowledged,
+            payload,
+        )),
         Event::Completed => echo(d),
         Event::ReceiveError(_) => Answer::Done,
         Event::DominantBit => Answer::Done,

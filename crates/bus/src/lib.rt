@@ -8,10 +8,9 @@ use types::Event;
 use types::Outcome;
 use types::Pins;
 
-pub mod types;
-
 mod changed;
 mod judged;
+pub mod types;
 
 // The answer that an event gets; the device stays.
 pub fn answer(d: Device, e: Event, payload: [u8; 8]) -> Answer
@@ -61,5 +60,10 @@ pub fn pins(d: Device) -> Pins
     let stat = drawn::stat(d);
     let gp1 = drawn::gp(d, gpine % 16);
     let gp2 = drawn::gp(d, gpine / 16);
-    Pins { int, stat, gp1, gp2 }
+    Pins {
+        int,
+        stat,
+        gp1,
+        gp2,
+    }
 }

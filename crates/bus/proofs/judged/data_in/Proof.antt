@@ -32,7 +32,7 @@ array-read-t26 : tie.Need-array-read-t26
 array-read-t26 c = search needs
 
 returns : tie.Need-returns
-returns c = 
+returns c =
     let b = c .before .args .m .bytes in
     let sixteen : length b ≡ 16 = search needs in
     rw (listed 0 b, sixteen)

@@ -17,7 +17,7 @@ array-share-prefix-sent : tie.Need-array-share-prefix-sent
 array-share-prefix-sent c = search needs
 
 slice-aggregate-transfer : tie.Need-slice-aggregate-transfer
-slice-aggregate-transfer c = 
+slice-aggregate-transfer c =
     let a = c .before .before .before .args in
     let sixteen : length (a .t2) ≡ 16 = search needs in
     sym (length-take-le _ (a .t2) (omega (arith, c .before .before .at-most-16 .ensures)))
