@@ -42,9 +42,9 @@ pub fn event(d: Device, e: Event, payload: [u8; 8]) -> Outcome
             }
         }
         Answer::Arrived(what) => {
-            let after = changed::after(d, e, payload);
+            let arrived = changed::after(d, e, payload);
             Outcome {
-                device: after,
+                device: arrived,
                 answer: Answer::Arrived(what),
             }
         }

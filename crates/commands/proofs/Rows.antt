@@ -26,9 +26,9 @@ abbrev pub distinct : List Row → Bool
 distinct [] = true
 distinct (r ∷ rs) = all (λ s. not (eqb (r .command) (s .command))) rs && distinct rs
 
--- the three factory commands: 0x4E, 0xF4, 0xF6
+-- the three factory commands
 abbrev pub factory : ℕ → Bool
-factory c = eqb c 78 || (eqb c 244 || eqb c 246)
+factory c = eqb c 0x4E || (eqb c 0xF4 || eqb c 0xF6)
 
 -- a row's reply is at most sixteen bytes, and its command is no factory command
 abbrev pub sound : Row → Bool

@@ -24,7 +24,7 @@ changed d mode = raised (with-acting d mode) mchg
 -- once and ends a running transmission as an abort does, TXEN and TX1M kept; if not, no transmission is touched". A sleep is only waited for.
 unfoldable pub writeCtrl0 : Device → ℕ → Device
 writeCtrl0 d v =
-    pick (isSet 3 v) (put-ctrl0 (reset d) 136)
+    pick (isSet 3 v) (put-ctrl0 (reset d) 0x88)
     (pick (eqb (modeOf v) sleep) (put-ctrl0 d v)
     (pick (eqb (modeOf v) (d .acting)) (put-ctrl0 d v)
     (changed (stopped (put-ctrl0 d v)) (modeOf v))))

@@ -78,20 +78,17 @@ pub fn begun(d: Device) -> Device
 pub fn stopped(d: Device) -> Device
     ensures { λ r. ⌜ r ≡ stopped d ⌝ }
 {
-    let mut e = d;
-    e.sending = IDLE;
-    e
+    Device { sending: IDLE, ..d }
 }
 
 // 0x52.
 pub fn aborted(d: Device) -> Device
     ensures { λ r. ⌜ r ≡ aborted d ⌝ }
 {
-    let ctrl1 = d.regs.ctrl1 % 64;
+    let disabled = d.regs.ctrl1 % 64;
     let mut e = d;
-    e.regs.ctrl1 = ctrl1;
-    e.sending = IDLE;
-    e
+    e.regs.ctrl1 = disabled;
+    stopped(e)
 }
 
 fn left_alone(sending: u8) -> u8

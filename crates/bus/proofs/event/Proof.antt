@@ -1,7 +1,6 @@
 -- `bus::event` meets its contract. Assumes nothing.
 use mathlib.Core.Path.{sym, _∙_}
 use Rattle.bus.specs.Event.{event}
-use Rattle.base.specs.Pick.{picks, judges}
 use borrow.Author.Needs.{needs}
 use Rattle.bus.proofs.event.Statement.{statement}
 use Rattle.bus.proofs.event.Tie as tie

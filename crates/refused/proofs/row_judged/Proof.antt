@@ -1,6 +1,6 @@
 -- `refused::row_judged` meets its contract. Assumes nothing.
 use Rattle.refused.specs.Refused.{rowJudged}
-use Rattle.base.specs.Pick.{picks, judges}
+use Rattle.base.specs.Pick.{picks}
 use borrow.Author.Needs.{needs}
 use Rattle.refused.proofs.row_judged.Statement.{statement}
 use Rattle.refused.proofs.row_judged.Tie as tie

@@ -1,12 +1,15 @@
 -- `transmit::aborted` meets its contract. Assumes nothing.
-use Rattle.transmit.specs.Transmit.{aborted, stopped}
-use Rattle.base.specs.Pick.{picks, judges}
+use Rattle.transmit.specs.Transmit.{aborted}
+use borrow.Author.Needs.{needs}
 use Rattle.transmit.proofs.aborted.Statement.{statement}
 use Rattle.transmit.proofs.aborted.Tie as tie
 
+stopped-requires : tie.Need-stopped-requires
+stopped-requires c κs = search needs
+
 returns : tie.Need-returns
-unfolding aborted stopped
-returns c = search (picks, judges)
+unfolding aborted
+returns c = rw (c .stopped .ensures)
 
 pub aborted-spec : {M : Type 1} → statement M
-aborted-spec = tie.close (tie.spec returns)
+aborted-spec = tie.close (tie.spec stopped-requires returns)

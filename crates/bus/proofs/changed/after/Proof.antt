@@ -1,6 +1,5 @@
 -- `bus::changed::after` meets its contract. Assumes nothing.
 use Rattle.bus.specs.Changed.{after}
-use Rattle.base.specs.Pick.{picks, judges}
 use borrow.Author.Needs.{needs}
 use Rattle.bus.proofs.changed.after.Statement.{statement}
 use Rattle.bus.proofs.changed.after.Tie as tie

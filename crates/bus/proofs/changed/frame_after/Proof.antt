@@ -1,6 +1,5 @@
 -- `bus::changed::frame_after` meets its contract. Assumes nothing.
 use Rattle.bus.specs.Changed.{frameAfter}
-use Rattle.base.specs.Pick.{picks, judges}
 use borrow.Author.Needs.{needs}
 use Rattle.bus.proofs.changed.frame_after.Statement.{statement}
 use Rattle.bus.proofs.changed.frame_after.Tie as tie

@@ -2,7 +2,6 @@
 use mathlib.Core.Path.{_≡_}
 use lib.ListN.{length}
 use Rattle.base.proofs.Lists.{listed}
-use Rattle.base.specs.Pick.{picks, judges}
 use borrow.Author.Needs.{needs}
 use Rattle.bus.proofs.judged.data_in.Statement.{statement}
 use Rattle.bus.proofs.judged.data_in.Tie as tie

@@ -1,6 +1,5 @@
 -- `bus::judged::said` meets its contract. Assumes nothing.
 use Rattle.bus.specs.Judged.{said}
-use Rattle.base.specs.Pick.{picks, judges}
 use borrow.Author.Needs.{needs}
 use Rattle.bus.proofs.judged.said.Statement.{statement}
 use Rattle.bus.proofs.judged.said.Tie as tie
