@@ -6,12 +6,12 @@ use Rattle.chip.specs.declared.Device.{Device}
 use Rattle.chip.specs.Proper.{proper}
 use Rattle.receive.specs.declared.Arrival.{Arrival}
 use Rattle.receive.specs.declared.Arrival.the-variants.{Queued, A1, A2, A3, A4, A5}
-use Rattle.bus.specs.declared.types.Answer.{Answer}
-use Rattle.bus.specs.declared.types.Answer.the-variants.{Refused, Done, Arrived}
-use Rattle.bus.specs.declared.types.Event.{Event}
+use Rattle.judged.specs.declared.Answer.{Answer}
+use Rattle.judged.specs.declared.Answer.the-variants.{Refused, Done, Arrived}
+use Rattle.events.specs.declared.Event.{Event}
 use Rattle.bus.specs.declared.types.Outcome.{Outcome}
-use Rattle.bus.specs.Judged.{impossible, said}
-use Rattle.bus.specs.Changed.{after}
+use Rattle.judged.specs.Judged.{impossible, said}
+use Rattle.changed.specs.Changed.{after}
 
 -- 01's number for each answer
 unfoldable pub numberOf : Answer → ℕ

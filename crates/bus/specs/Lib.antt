@@ -1,4 +1,2 @@
-pub mod Judged
-pub mod Changed
 pub mod Event
 pub mod Pins

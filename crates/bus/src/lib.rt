@@ -3,13 +3,11 @@ ghost use mathlib.Core.Path.{_≡_};
 ghost use Rattle.bus.specs.Event.{answer, event};
 ghost use Rattle.bus.specs.Pins.{pins};
 use chip::Device;
-use types::Answer;
-use types::Event;
+use events::Event;
+use judged::Answer;
 use types::Outcome;
 use types::Pins;
 
-mod changed;
-mod judged;
 pub mod types;
 
 // The answer that an event gets; the device stays.

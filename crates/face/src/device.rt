@@ -1,9 +1,9 @@
 // The device's two doors, for a request of the script.
 ghost use Prim.Native.Nat.{_≤_};
-use bus::types::Event;
 use bus::types::Outcome;
 use chip::Device;
 use commands::Found;
+use events::Event;
 
 // What a transfer did: its number and, where that is 0, the reply.
 pub struct Transferred {

@@ -8,7 +8,7 @@ use Rattle.base.specs.Pick.{pick}
 use Rattle.line.specs.declared.data.Data.{Data}
 use Rattle.line.specs.declared.Asked.{Asked}
 use Rattle.line.specs.declared.Line.{Line}
-use Rattle.bus.specs.declared.types.ErrorKind.{ErrorKind}
+use Rattle.events.specs.declared.ErrorKind.{ErrorKind}
 use Rattle.line.specs.declared.Expected.{Expected}
 use Rattle.line.specs.declared.Expected.the-variants.{Byte, Error}
 use Rattle.line.specs.declared.words.Span.{Span}

@@ -7,12 +7,12 @@ use lib.Dec.{leb}
 use lib.ListN.{length, take, drop, replicate}
 use Rattle.base.specs.Pick.{pick}
 use Rattle.frame.specs.declared.Header.{Header}
-use Rattle.bus.specs.declared.types.ErrorKind.{ErrorKind}
-use Rattle.bus.specs.declared.types.ErrorKind.the-variants.{Stuff, Ack, Crc, Form, Bit}
-use Rattle.bus.specs.declared.types.Event.{Event}
-use Rattle.bus.specs.declared.types.Event.the-variants.{GoodFrame, ReceiveError, DominantBit, TransmitError, Begun, Completed}
-use Rattle.bus.specs.declared.types.Event.the-variants.{ArbitrationLost, ElevenRecessive, BusQuiet, BusActivity}
-use Rattle.bus.specs.declared.types.Event.the-variants.{Ticks, TxenPin, MasterReset}
+use Rattle.events.specs.declared.ErrorKind.{ErrorKind}
+use Rattle.events.specs.declared.ErrorKind.the-variants.{Stuff, Ack, Crc, Form, Bit}
+use Rattle.events.specs.declared.Event.{Event}
+use Rattle.events.specs.declared.Event.the-variants.{GoodFrame, ReceiveError, DominantBit, TransmitError, Begun, Completed}
+use Rattle.events.specs.declared.Event.the-variants.{ArbitrationLost, ElevenRecessive, BusQuiet, BusActivity}
+use Rattle.events.specs.declared.Event.the-variants.{Ticks, TxenPin, MasterReset}
 use Rattle.line.specs.declared.Expected.{Expected}
 use Rattle.line.specs.declared.Expected.the-variants.{Request, Byte, Room, Identifier, StdOrExt, DataOrRemote}
 use Rattle.line.specs.declared.Expected.the-variants.{LengthCode, AckOrNoack, Error, CountedOrExempt, Count}

@@ -5,7 +5,7 @@ mod numbers;
 mod requests;
 mod words;
 
-use bus::types::Event;
+use events::Event;
 ghost use mathlib.Core.Path.{_≡_};
 ghost use Rattle.line.specs.Request.{readLine};
 

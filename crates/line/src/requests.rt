@@ -18,8 +18,8 @@ use crate::numbers::is_number;
 use crate::numbers::wrapped;
 use crate::words::is;
 use crate::words::word;
-use bus::types::ErrorKind;
-use bus::types::Event;
+use events::ErrorKind;
+use events::Event;
 use frame::Header;
 
 // Which of two words.

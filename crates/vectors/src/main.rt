@@ -1,9 +1,9 @@
 // The worked numbers of document 01 that are run, and its five errors of a hurried builder as scenarios: a line for each, held
 // against the crate's file `stdout`.
-use bus::types::Answer;
-use bus::types::Event;
 use chip::Device;
+use events::Event;
 use frame::Header;
+use judged::Answer;
 use libc::STDOUT_FILENO;
 use receive::Arrival;
 

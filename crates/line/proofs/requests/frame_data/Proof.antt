@@ -1,6 +1,6 @@
 -- `line::requests::frame_data` meets its contract. Assumes nothing.
 use mathlib.Core.Path.{_∙_}
-use Rattle.bus.specs.declared.types.Event.the-variants.{GoodFrame}
+use Rattle.events.specs.declared.Event.the-variants.{GoodFrame}
 use Rattle.line.specs.declared.Asked.the-variants.{Happens}
 use Rattle.line.specs.Request.{frameData}
 use Rattle.line.proofs.Answers.{data-good, data-bad}

@@ -1,5 +1,5 @@
 -- `line::requests::rxerr` meets its contract. Assumes nothing.
-use Rattle.bus.specs.declared.types.Event.the-variants.{ReceiveError}
+use Rattle.events.specs.declared.Event.the-variants.{ReceiveError}
 use Rattle.line.specs.declared.Asked.the-variants.{Happens}
 use Rattle.line.specs.Request.{rxerrOf, ending}
 use Rattle.line.proofs.Answers.{kind-named, kind-wrong}

@@ -1,7 +1,7 @@
 -- `line::requests::ticks` meets its contract. Assumes nothing.
 use mathlib.Core.Path.{ap, _∙_}
 use Prim.Native.Nat.{ℕ, _%_}
-use Rattle.bus.specs.declared.types.Event.the-variants.{Ticks}
+use Rattle.events.specs.declared.Event.the-variants.{Ticks}
 use Rattle.line.specs.declared.Asked.the-variants.{Happens}
 use Rattle.line.specs.declared.Expected.the-variants.{Count}
 use lib.ListN.{drop}

@@ -1,5 +1,5 @@
 -- `line::requests::txen` meets its contract. Assumes nothing.
-use Rattle.bus.specs.declared.types.Event.the-variants.{TxenPin}
+use Rattle.events.specs.declared.Event.the-variants.{TxenPin}
 use Rattle.line.specs.declared.Asked.the-variants.{Happens}
 use Rattle.line.specs.declared.Expected.the-variants.{ZeroOrOne}
 use Rattle.line.specs.Text.{ascii}

@@ -1,5 +1,5 @@
 -- `line::requests::txerr_counted` meets its contract. Assumes nothing.
-use Rattle.bus.specs.declared.types.Event.the-variants.{TransmitError}
+use Rattle.events.specs.declared.Event.the-variants.{TransmitError}
 use Rattle.line.specs.declared.Asked.the-variants.{Happens}
 use Rattle.line.specs.declared.Expected.the-variants.{CountedOrExempt}
 use Rattle.line.specs.Text.{ascii}

@@ -1,0 +1,23 @@
+-- `changed::error_received` meets its contract. Assumes nothing.
+use Rattle.changed.specs.Changed.{errorReceived}
+use Rattle.base.specs.Pick.{picks, judges}
+use borrow.Author.Needs.{needs}
+use Rattle.changed.proofs.error_received.Statement.{statement}
+use Rattle.changed.proofs.error_received.Tie as tie
+
+counted-receive-error-requires : tie.Need-counted-receive-error-requires
+counted-receive-error-requires c κs = search needs
+
+err-bit-requires : tie.Need-err-bit-requires
+err-bit-requires c κs = search needs
+
+bus-error-requires : tie.Need-bus-error-requires
+bus-error-requires c κs = search needs
+
+returns : tie.Need-returns
+unfolding errorReceived
+returns c = rw (← c .before .before .counted-receive-error .ensures, ← c .before .err-bit .ensures, ← c .bus-error .ensures) (search (picks, judges))
+
+pub error-received-spec : {M : Type 1} → statement M
+error-received-spec =
+    tie.close (tie.spec counted-receive-error-requires err-bit-requires bus-error-requires returns)

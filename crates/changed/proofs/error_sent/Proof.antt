@@ -1,0 +1,32 @@
+-- `changed::error_sent` meets its contract. Assumes nothing.
+use Rattle.changed.specs.Changed.{errorSent}
+use Rattle.base.specs.Pick.{picks, judges}
+use borrow.Author.Needs.{needs}
+use Rattle.changed.proofs.error_sent.Statement.{statement}
+use Rattle.changed.proofs.error_sent.Tie as tie
+
+counted-transmit-error-requires : tie.Need-counted-transmit-error-requires
+counted-transmit-error-requires c κs = search needs
+
+err-bit-requires : tie.Need-err-bit-requires
+err-bit-requires c κs = search needs
+
+bus-error-requires : tie.Need-bus-error-requires
+bus-error-requires c κs = search needs
+
+stopped-requires : tie.Need-stopped-requires
+stopped-requires c κs = search needs
+
+returns : tie.Need-returns
+unfolding errorSent
+returns c = rw (← c .before .before .before .counted-transmit-error .ensures, ← c .before .before .err-bit .ensures, ← c .before .bus-error .ensures, ← c .stopped .ensures) (search (picks, judges))
+
+pub error-sent-spec : {M : Type 1} → statement M
+error-sent-spec =
+    tie.close
+    (tie.spec
+    counted-transmit-error-requires
+    err-bit-requires
+    bus-error-requires
+    stopped-requires
+    returns)

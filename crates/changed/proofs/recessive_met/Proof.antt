@@ -1,0 +1,16 @@
+-- `changed::recessive_met` meets its contract. Assumes nothing.
+use Rattle.changed.specs.Changed.{recessiveMet}
+use Rattle.base.specs.Pick.{picks, judges}
+use borrow.Author.Needs.{needs}
+use Rattle.changed.proofs.recessive_met.Statement.{statement}
+use Rattle.changed.proofs.recessive_met.Tie as tie
+
+eleven-recessive-requires : tie.Need-eleven-recessive-requires
+eleven-recessive-requires c κs = search needs
+
+returns : tie.Need-returns
+unfolding recessiveMet
+returns c = rw (← c .eleven-recessive .ensures) (search (picks, judges))
+
+pub recessive-met-spec : {M : Type 1} → statement M
+recessive-met-spec = tie.close (tie.spec eleven-recessive-requires returns)

@@ -1,0 +1,103 @@
+-- What an event that isn't refused changes (01, Bus events, and Modes and filters).
+use mathlib.Core.Bool.{Bool}
+use mathlib.Core.List.{List}
+use Prim.Native.Nat.{ℕ, _+_, _%_}
+use lib.Dec.{eqb}
+use Rattle.base.specs.Pick.{pick}
+use Rattle.counters.specs.declared.Counters.{Counters}
+use Rattle.counters.specs.Rules.{receiveError, dominantBit, goodFrame, transmitError, elevenRecessive}
+use Rattle.frame.specs.declared.Header.{Header}
+use Rattle.frame.specs.Received.{headerIn, dataIn}
+use Rattle.chip.specs.declared.Device.{Device}
+use Rattle.chip.specs.Parts.{with-counters, with-time, with-txenpin}
+use Rattle.chip.specs.State.{normal, loopback, monitor, bor}
+use Rattle.receive.specs.declared.Arrival.{Arrival}
+use Rattle.receive.specs.declared.Arrival.the-variants.{Queued, A1, A2, A3, A4, A5}
+use Rattle.flags.specs.Flags.{busError}
+use Rattle.modes.specs.Modes.{busQuiet, busActivity}
+use Rattle.receive.specs.Receive.{arrived}
+use Rattle.flags.specs.Reset.{reset}
+use Rattle.transmit.specs.Transmit.{begun, stopped, sent}
+use Rattle.events.specs.declared.ErrorKind.{ErrorKind}
+use Rattle.events.specs.declared.ErrorKind.the-variants.{Stuff, Ack, Crc, Form, Bit}
+use Rattle.events.specs.declared.Event.{Event}
+use Rattle.events.specs.declared.Event.the-variants.{GoodFrame, ReceiveError, DominantBit, TransmitError, Begun, Completed}
+use Rattle.events.specs.declared.Event.the-variants.{ArbitrationLost, ElevenRecessive, BusQuiet, BusActivity, Ticks, TxenPin}
+use Rattle.events.specs.declared.Event.the-variants.{MasterReset, Unknown}
+use Rattle.judged.specs.Judged.{reason}
+
+-- 000, ERR: STUFERR is bit 0, ACKERR 1, CRCERR 2, FRMERR 3, BITERR 4
+unfoldable pub errBit : ErrorKind → ℕ
+errBit Stuff = 1
+errBit Ack = 2
+errBit Crc = 4
+errBit Form = 8
+errBit Bit = 16
+
+-- "Good frame in normal mode, answered Queued, A4 or A5: REC - 1"
+unfoldable pub countedFrame : Counters → ℕ → Counters
+countedFrame c acting = pick (eqb acting normal) (goodFrame c) c
+
+unfoldable pub heard : Device → Header → List ℕ → Device
+heard d h bytes = with-counters (arrived d h bytes) (countedFrame (d .counters) (d .acting))
+
+-- "A1 to A3 leave the temporary buffer alone. A4, A5 and Queued put the frame there." A frame in sleep wakes the device if WAKEUP is set.
+unfoldable pub frameAfter : Device → Header → List ℕ → Arrival → Device
+frameAfter d h bytes Queued = heard d h bytes
+frameAfter d h bytes A1 = busActivity d
+frameAfter d h bytes A2 = d
+frameAfter d h bytes A3 = d
+frameAfter d h bytes A4 = heard d h bytes
+frameAfter d h bytes A5 = heard d h bytes
+
+-- "Monitor mode moves neither."
+unfoldable pub countedReceiveError : Counters → ℕ → Counters
+countedReceiveError c acting = pick (eqb acting monitor) c (receiveError c)
+
+-- "the event sets that bit, also when exempt or in monitor mode"
+unfoldable pub errorReceived : Device → ErrorKind → Device
+errorReceived d kind = with-counters (busError d (errBit kind)) (countedReceiveError (d .counters) (d .acting))
+
+unfoldable pub dominantMet : Device → Device
+dominantMet d = pick (eqb (d .acting) monitor) d (with-counters d (dominantBit (d .counters)))
+
+unfoldable pub countedTransmitError : Counters → ℕ → Bool → Counters
+countedTransmitError c acting counted = pick counted (pick (eqb acting monitor) c (transmitError c)) c
+
+-- an error leaves the message first in the FIFO, to be sent again
+unfoldable pub errorSent : Device → ErrorKind → Bool → Device
+errorSent d kind counted =
+    stopped (with-counters (busError d (errBit kind)) (countedTransmitError (d .counters) (d .acting) counted))
+
+-- in loopback the own message arrives, with the time tag that the history gets too
+unfoldable pub completed : Device → Device
+completed d =
+    pick (eqb (d .acting) loopback)
+    (sent (arrived d (headerIn (d .buffer .bytes)) (dataIn (d .buffer .bytes))))
+    (sent d)
+
+unfoldable pub recessiveMet : Device → Device
+recessiveMet d = with-counters d (elevenRecessive (d .counters) (bor d))
+
+-- "Each tick, already divided, moves the time tag one step in every mode, from 65535 to 0."
+unfoldable pub ticked : Device → ℕ → Device
+ticked d count = with-time d ((d .time + count) % 65536)
+
+unfoldable pub pinSet : Device → Bool → Device
+pinSet d level = with-txenpin d level
+
+unfoldable pub after : Device → Event → List ℕ → Device
+after d (GoodFrame h acknowledged given) bytes = frameAfter d h bytes (reason d h acknowledged bytes)
+after d (ReceiveError kind) bytes = errorReceived d kind
+after d DominantBit bytes = dominantMet d
+after d (TransmitError kind counted) bytes = errorSent d kind counted
+after d Begun bytes = begun d
+after d Completed bytes = completed d
+after d ArbitrationLost bytes = stopped d
+after d ElevenRecessive bytes = recessiveMet d
+after d BusQuiet bytes = busQuiet d
+after d BusActivity bytes = busActivity d
+after d (Ticks count) bytes = ticked d count
+after d (TxenPin level) bytes = pinSet d level
+after d MasterReset bytes = reset d
+after d Unknown bytes = d

@@ -1,0 +1,196 @@
+// What an event that isn't refused changes.
+ghost use mathlib.Core.Path.{_≡_};
+ghost use Prim.Native.Nat.{_+_, _%_};
+ghost use Rattle.changed.specs.Changed.{errBit, countedFrame, heard, frameAfter, countedReceiveError, errorReceived};
+ghost use Rattle.changed.specs.Changed.{dominantMet, countedTransmitError, errorSent, completed, recessiveMet, ticked, pinSet, after};
+use chip::Device;
+use chip::LOOPBACK;
+use chip::MONITOR;
+use chip::NORMAL;
+use counters::Counters;
+use events::ErrorKind;
+use events::Event;
+use frame::Header;
+use receive::Arrival;
+
+fn err_bit(kind: ErrorKind) -> u8
+    ensures { λ r. ⌜ r ≡ errBit kind ⌝ }
+{
+    match kind {
+        ErrorKind::Stuff => 1,
+        ErrorKind::Ack => 2,
+        ErrorKind::Crc => 4,
+        ErrorKind::Form => 8,
+        ErrorKind::Bit => 16,
+    }
+}
+
+// A good frame lowers REC in normal mode.
+fn counted_frame(c: Counters, acting: u8) -> Counters
+    ensures { λ r. ⌜ r ≡ countedFrame c acting ⌝ }
+{
+    if acting == NORMAL {
+        counters::good_frame(c)
+    } else {
+        c
+    }
+}
+
+// A frame that the mode takes, from the bus.
+fn heard(d: Device, h: Header, payload: [u8; 8]) -> Device
+    ensures { λ r. ⌜ r ≡ heard d h payload ⌝ }
+{
+    let pair = d.counters;
+    let c = counted_frame(pair, d.acting);
+    let mut e = receive::arrived(d, h, payload);
+    e.counters = c;
+    e
+}
+
+// A good frame, by what became of it: one that a sleeping device meets can wake it.
+fn frame_after(d: Device, h: Header, payload: [u8; 8], what: Arrival) -> Device
+    ensures { λ r. ⌜ r ≡ frameAfter d h payload what ⌝ }
+{
+    match what {
+        Arrival::Queued => heard(d, h, payload),
+        Arrival::A1 => modes::bus_activity(d),
+        Arrival::A2 => d,
+        Arrival::A3 => d,
+        Arrival::A4 => heard(d, h, payload),
+        Arrival::A5 => heard(d, h, payload),
+    }
+}
+
+fn counted_receive_error(c: Counters, acting: u8) -> Counters
+    ensures { λ r. ⌜ r ≡ countedReceiveError c acting ⌝ }
+{
+    if acting == MONITOR {
+        c
+    } else {
+        counters::receive_error(c)
+    }
+}
+
+fn error_received(d: Device, kind: ErrorKind) -> Device
+    ensures { λ r. ⌜ r ≡ errorReceived d kind ⌝ }
+{
+    let pair = d.counters;
+    let c = counted_receive_error(pair, d.acting);
+    let mut e = flags::bus_error(d, err_bit(kind));
+    e.counters = c;
+    e
+}
+
+fn dominant_met(d: Device) -> Device
+    ensures { λ r. ⌜ r ≡ dominantMet d ⌝ }
+{
+    let acting = d.acting;
+    if acting == MONITOR {
+        d
+    } else {
+        let pair = d.counters;
+        let c = counters::dominant_bit(pair);
+        let mut e = d;
+        e.counters = c;
+        e
+    }
+}
+
+fn counted_transmit_error(c: Counters, acting: u8, counted: bool) -> Counters
+    ensures { λ r. ⌜ r ≡ countedTransmitError c acting counted ⌝ }
+{
+    if counted {
+        if acting == MONITOR {
+            c
+        } else {
+            counters::transmit_error(c)
+        }
+    } else {
+        c
+    }
+}
+
+fn error_sent(d: Device, kind: ErrorKind, counted: bool) -> Device
+    ensures { λ r. ⌜ r ≡ errorSent d kind counted ⌝ }
+{
+    let pair = d.counters;
+    let c = counted_transmit_error(pair, d.acting, counted);
+    let mut e = flags::bus_error(d, err_bit(kind));
+    e.counters = c;
+    transmit::stopped(e)
+}
+
+// A completion: in loopback the message arrives first, then it is sent.
+fn completed(d: Device) -> Device
+    ensures { λ r. ⌜ r ≡ completed d ⌝ }
+{
+    let acting = d.acting;
+    if acting == LOOPBACK {
+        let m = d.buffer;
+        let bytes = m.bytes;
+        let h = frame::header_in(bytes);
+        let payload = judged::data_in(m);
+        let e = receive::arrived(d, h, payload);
+        transmit::sent(e)
+    } else {
+        transmit::sent(d)
+    }
+}
+
+fn recessive_met(d: Device) -> Device
+    ensures { λ r. ⌜ r ≡ recessiveMet d ⌝ }
+{
+    let bor = (d.regs.ctrl0 >> 2) % 2 == 1;
+    let pair = d.counters;
+    let c = counters::eleven_recessive(pair, bor);
+    let mut e = d;
+    e.counters = c;
+    e
+}
+
+fn later(time: u16, count: u64) -> u16
+    ensures { λ r. ⌜ r ≡ (time + count) % 65536 ⌝ }
+{
+    ((time as u64 + count % 65536) % 65536) as u16
+}
+
+fn ticked(d: Device, count: u64) -> Device
+    ensures { λ r. ⌜ r ≡ ticked d count ⌝ }
+{
+    let time = later(d.time, count);
+    let mut e = d;
+    e.time = time;
+    e
+}
+
+fn pin_set(d: Device, level: bool) -> Device
+    ensures { λ r. ⌜ r ≡ pinSet d level ⌝ }
+{
+    let mut e = d;
+    e.txenpin = level;
+    e
+}
+
+pub fn after(d: Device, e: Event, payload: [u8; 8]) -> Device
+    ensures { λ r. ⌜ r ≡ after d e payload ⌝ }
+{
+    match e {
+        Event::GoodFrame(h, acknowledged, _) => {
+            let what = judged::reason(d, h, acknowledged, payload);
+            frame_after(d, h, payload, what)
+        }
+        Event::ReceiveError(kind) => error_received(d, kind),
+        Event::DominantBit => dominant_met(d),
+        Event::TransmitError(kind, counted) => error_sent(d, kind, counted),
+        Event::Begun => transmit::begun(d),
+        Event::Completed => completed(d),
+        Event::ArbitrationLost => transmit::stopped(d),
+        Event::ElevenRecessive => recessive_met(d),
+        Event::BusQuiet => modes::bus_quiet(d),
+        Event::BusActivity => modes::bus_activity(d),
+        Event::Ticks(count) => ticked(d, count),
+        Event::TxenPin(level) => pin_set(d, level),
+        Event::MasterReset => flags::reset(d),
+        Event::Unknown => d,
+    }
+}

@@ -1,0 +1,93 @@
+-- Which events are answered 8, and what the others say (01, Bus events, and Numbers given back).
+use mathlib.Core.Bool.{Bool, true, false, not, _&&_, _||_}
+use mathlib.Core.List.{List}
+use Prim.Native.Nat.{ℕ}
+use lib.Dec.{eqb}
+use Rattle.base.specs.Pick.{pick}
+use Rattle.frame.specs.declared.Header.{Header}
+use Rattle.frame.specs.Length.{possible, dataFits}
+use Rattle.frame.specs.Received.{headerIn, dataIn}
+use Rattle.chip.specs.declared.Device.{Device}
+use Rattle.chip.specs.State.{loopback, monitor, sleep, initialization, idle}
+use Rattle.receive.specs.declared.Arrival.{Arrival}
+use Rattle.receive.specs.declared.Arrival.the-variants.{A1, A2, A3}
+use Rattle.receive.specs.Receive.{reason as filtersAndRoom}
+use Rattle.transmit.specs.Transmit.{canBegin}
+use Rattle.judged.specs.declared.Answer.{Answer}
+use Rattle.judged.specs.declared.Answer.the-variants.{Done, Arrived}
+use Rattle.events.specs.declared.Event.{Event}
+use Rattle.events.specs.declared.Event.the-variants.{GoodFrame, ReceiveError, DominantBit, TransmitError, Begun, Completed}
+use Rattle.events.specs.declared.Event.the-variants.{ArbitrationLost, ElevenRecessive, BusQuiet, BusActivity, Ticks, TxenPin}
+use Rattle.events.specs.declared.Event.the-variants.{MasterReset, Unknown}
+
+-- the modes that hear nothing
+unfoldable pub quietMode : ℕ → Bool
+quietMode acting = eqb acting initialization || eqb acting sleep
+
+-- 8: "an error or dominant-bit event in initialization, sleep or bus off"
+unfoldable pub noErrors : Device → Bool
+noErrors d = quietMode (d .acting) || d .counters .busoff
+
+unfoldable pub runs : Device → Bool
+runs d = not (eqb (d .sending) idle)
+
+-- 8: "an identifier of 2^11 (standard) or 2^29 (extended) or more, a length code above 15, data bytes not as many as the length code says"
+unfoldable pub impossibleFrame : Header → ℕ → Bool
+impossibleFrame h given = not (possible h && dataFits h given)
+
+-- 8 is also given for "an unknown kind", "a completion, transmit error or lost arbitration with nothing begun", and for a begin that can't be.
+unfoldable pub impossible : Device → Event → Bool
+impossible d (GoodFrame h acknowledged given) = impossibleFrame h given
+impossible d (ReceiveError kind) = noErrors d
+impossible d DominantBit = noErrors d
+impossible d (TransmitError kind counted) = not (runs d) || noErrors d
+impossible d Begun = not (canBegin d)
+impossible d Completed = not (runs d)
+impossible d ArbitrationLost = not (runs d)
+impossible d ElevenRecessive = false
+impossible d BusQuiet = false
+impossible d BusActivity = false
+impossible d (Ticks count) = false
+impossible d (TxenPin level) = false
+impossible d MasterReset = false
+impossible d Unknown = true
+
+-- A1: "the mode doesn't take bus frames (initialization, sleep, loopback)"
+unfoldable pub takesNoFrames : ℕ → Bool
+takesNoFrames acting = quietMode acting || eqb acting loopback
+
+-- A3: "monitor mode, and no other node acknowledged it"
+unfoldable pub unacknowledged : ℕ → Bool → Bool
+unacknowledged acting acknowledged = eqb acting monitor && not acknowledged
+
+-- "the first that holds": A1; "A2 bus off"; A3; then the filters and the room
+unfoldable pub reason : Device → Header → Bool → List ℕ → Arrival
+reason d h acknowledged bytes =
+    pick (takesNoFrames (d .acting)) A1
+    (pick (d .counters .busoff) A2
+    (pick (unacknowledged (d .acting) acknowledged) A3
+    (filtersAndRoom d h bytes)))
+
+-- "In loopback each completed own message arrives as a good frame: the completion's answer also says Queued, A4 or A5"
+unfoldable pub echo : Device → Answer
+echo d =
+    pick (eqb (d .acting) loopback)
+    (Arrived (filtersAndRoom d (headerIn (d .buffer .bytes)) (dataIn (d .buffer .bytes))))
+    Done
+
+-- what an event says that isn't refused
+unfoldable pub said : Device → Event → List ℕ → Answer
+said d (GoodFrame h acknowledged given) bytes = Arrived (reason d h acknowledged bytes)
+said d Completed bytes = echo d
+said d (ReceiveError kind) bytes = Done
+said d DominantBit bytes = Done
+said d (TransmitError kind counted) bytes = Done
+said d Begun bytes = Done
+said d ArbitrationLost bytes = Done
+said d ElevenRecessive bytes = Done
+said d BusQuiet bytes = Done
+said d BusActivity bytes = Done
+said d (Ticks count) bytes = Done
+said d (TxenPin level) bytes = Done
+said d MasterReset bytes = Done
+said d Unknown bytes = Done

@@ -1,0 +1,170 @@
+// Which events can't be, and what the others are answered.
+ghost use mathlib.Core.Path.{_≡_};
+ghost use Rattle.judged.specs.Judged.{quietMode, noErrors, runs, impossibleFrame, impossible};
+ghost use Rattle.judged.specs.Judged.{takesNoFrames, unacknowledged, reason, echo, said};
+ghost use Rattle.frame.specs.Received.{dataIn};
+use chip::Device;
+use chip::IDLE;
+use chip::INITIALIZATION;
+use chip::LOOPBACK;
+use chip::MONITOR;
+use chip::SLEEP;
+use events::Event;
+use fifo::Message;
+use frame::Header;
+use receive::Arrival;
+
+pub enum Answer {
+    // 1 or 8.
+    Refused(u8),
+    Done,
+    // A good frame, or an own message that came back in loopback, and what became of it.
+    Arrived(Arrival),
+}
+
+fn quiet_mode(acting: u8) -> bool
+    ensures { λ r. ⌜ r ≡ quietMode acting ⌝ }
+{
+    if acting == INITIALIZATION {
+        true
+    } else {
+        acting == SLEEP
+    }
+}
+
+// Where no error can be met.
+fn no_errors(d: Device) -> bool
+    ensures { λ r. ⌜ r ≡ noErrors d ⌝ }
+{
+    let busoff = d.counters.busoff;
+    if quiet_mode(d.acting) { true } else { busoff }
+}
+
+fn runs(d: Device) -> bool
+    ensures { λ r. ⌜ r ≡ runs d ⌝ }
+{
+    d.sending != IDLE
+}
+
+fn impossible_frame(h: Header, given: usize) -> bool
+    ensures { λ r. ⌜ r ≡ impossibleFrame h given ⌝ }
+{
+    if frame::possible(h) {
+        !frame::data_fits(h, given)
+    } else {
+        true
+    }
+}
+
+// 8: impossible fields, or an impossible time.
+pub fn impossible(d: Device, e: Event) -> bool
+    ensures { λ r. ⌜ r ≡ impossible d e ⌝ }
+{
+    match e {
+        Event::GoodFrame(h, _, given) => impossible_frame(h, given),
+        Event::ReceiveError(_) => no_errors(d),
+        Event::DominantBit => no_errors(d),
+        Event::TransmitError(_, _) => { if runs(d) { no_errors(d) } else { true } }
+        Event::Begun => !transmit::can_begin(d),
+        Event::Completed => !runs(d),
+        Event::ArbitrationLost => !runs(d),
+        Event::ElevenRecessive => false,
+        Event::BusQuiet => false,
+        Event::BusActivity => false,
+        Event::Ticks(_) => false,
+        Event::TxenPin(_) => false,
+        Event::MasterReset => false,
+        Event::Unknown => true,
+    }
+}
+
+fn takes_no_frames(acting: u8) -> bool
+    ensures { λ r. ⌜ r ≡ takesNoFrames acting ⌝ }
+{
+    if quiet_mode(acting) {
+        true
+    } else {
+        acting == LOOPBACK
+    }
+}
+
+// A monitor acknowledges nothing, so it takes what another node did.
+fn unacknowledged(acting: u8, acknowledged: bool) -> bool
+    ensures { λ r. ⌜ r ≡ unacknowledged acting acknowledged ⌝ }
+{
+    if acting == MONITOR {
+        !acknowledged
+    } else {
+        false
+    }
+}
+
+// What becomes of a good frame from the bus: the first reason that holds.
+pub fn reason(d: Device, h: Header, acknowledged: bool, payload: [u8; 8]) -> Arrival
+    ensures { λ r. ⌜ r ≡ reason d h acknowledged payload ⌝ }
+{
+    let deaf = takes_no_frames(d.acting);
+    let off = d.counters.busoff;
+    let alone = unacknowledged(d.acting, acknowledged);
+    let what = receive::reason(d, h, payload);
+    if deaf {
+        return Arrival::A1;
+    }
+    if off {
+        return Arrival::A2;
+    }
+    if alone {
+        return Arrival::A3;
+    }
+    what
+}
+
+// A message's eight data bytes.
+pub fn data_in(m: Message) -> [u8; 8]
+    ensures { λ r. ⌜ r ≡ dataIn (m .bytes) ⌝ }
+{
+    let b = m.bytes;
+    [b[8], b[9], b[10], b[11], b[12], b[13], b[14], b[15]]
+}
+
+// What a completion says: in loopback the own message comes back.
+fn echo(d: Device) -> Answer
+    ensures { λ r. ⌜ r ≡ echo d ⌝ }
+{
+    let acting = d.acting;
+    if acting == LOOPBACK {
+        let m = d.buffer;
+        let bytes = m.bytes;
+        let h = frame::header_in(bytes);
+        let payload = data_in(m);
+        Answer::Arrived(receive::reason(d, h, payload))
+    } else {
+        Answer::Done
+    }
+}
+
+pub fn said(d: Device, e: Event, payload: [u8; 8]) -> Answer
+    ensures { λ r. ⌜ r ≡ said d e payload ⌝ }
+{
+    match e {
+        Event::GoodFrame(h, acknowledged, _) => Answer::Arrived(reason(
+            d,
+            h,
+            acknowledged,
+            payload,
+        )),
+        Event::Completed => echo(d),
+        Event::ReceiveError(_) => Answer::Done,
+        Event::DominantBit => Answer::Done,
+        Event::TransmitError(_, _) => Answer::Done,
+        Event::Begun => Answer::Done,
+        Event::ArbitrationLost => Answer::Done,
+        Event::ElevenRecessive => Answer::Done,
+        Event::BusQuiet => Answer::Done,
+        Event::BusActivity => Answer::Done,
+        Event::Ticks(_) => Answer::Done,
+        Event::TxenPin(_) => Answer::Done,
+        Event::MasterReset => Answer::Done,
+        Event::Unknown => Answer::Done,
+    }
+}
