@@ -1,7 +1,7 @@
 -- Laws on lists that the kit does not have. Assumes nothing.
 use mathlib.Core.Path.{_≡_, refl, ap, sym, _∙_}
 use mathlib.Core.List.{List, [], _∷_, _++_}
-use Prim.Native.Nat.{ℕ, zero, suc, _<_, _+_, _-_}
+use Prim.Native.Nat.{ℕ, zero, suc, _<_, _≤_, _+_, _-_}
 use native.Mathlib.Omega.{arith}
 use native.Mathlib.Numerals.{add-one}
 use native.Mathlib.Nat.{zero-add, add-zero, add-suc, suc-add, zero-sub, sub-zero, suc-sub-suc, le-of-suc-le-suc, not-suc-le-zero}
@@ -34,10 +34,22 @@ pub table-at : {A : Type 0} (rule : ℕ → A) (d : A) (n k : ℕ) → k < n →
 table-at rule d n k h = getD-tabulate rule d n 0 k h ∙ ap rule (zero-add k)
 
 -- a list of known length is the list of its elements
-shift : {A : Type 0} (f : ℕ → A) (i n : ℕ) → tabulate f (suc i) n ≡ tabulate (λ (k : ℕ). f (suc k)) i n
+pub shift : {A : Type 0} (f : ℕ → A) (i n : ℕ) → tabulate f (suc i) n ≡ tabulate (λ (k : ℕ). f (suc k)) i n
 shift {A = A} f i zero = refl
 shift {A = A} f i (suc n) = ap (λ (l : List A). f (suc i) ∷ l) (shift f (suc i) n)
 
 pub listed : {A : Type 0} (d : A) (l : List A) → l ≡ tabulate (λ (k : ℕ). getD l k d) 0 (length l)
 listed {A = A} d [] = refl
 listed {A = A} d (x ∷ l) = ap (λ (r : List A). x ∷ r) (listed d l ∙ sym (shift (λ (k : ℕ). getD (x ∷ l) k d) 0 (length l)))
+
+-- tables of equal entries are equal
+pub tabulate-same : {A : Type 0} (f g : ℕ → A) (i n : ℕ) → ((k : ℕ) → i ≤ k → k < i + n → f k ≡ g k) → tabulate f i n ≡ tabulate g i n
+tabulate-same {A = A} f g i zero h = refl
+tabulate-same {A = A} f g i (suc n) h =
+    rw (h i (omega arith) (omega (arith, add-suc i n)))
+    (ap (λ (l : List A). g i ∷ l) (tabulate-same f g (suc i) n (λ k p q. h k (omega arith) (omega (arith, add-suc i n, suc-add i n)))))
+
+-- a table with one entry more
+pub tabulate-more : {A : Type 0} (f : ℕ → A) (i n : ℕ) → tabulate f i (suc n) ≡ tabulate f i n ++ (f (i + n) ∷ [])
+tabulate-more {A = A} f i zero = rw (add-zero i)
+tabulate-more {A = A} f i (suc n) = ap (λ (l : List A). f i ∷ l) (tabulate-more f (suc i) n ∙ ap (λ (k : ℕ). tabulate f (suc i) n ++ (f k ∷ [])) (suc-add i n ∙ sym (add-suc i n)))

@@ -1,4 +1,4 @@
--- What each command does to the device (01, Transfers, and the rules that steps/ has; 000, Table 1). `bytes` is the whole transfer: byte 1
+-- What each command does to the device (01, Transfers, and the rules of transmit, modes and flags; 000, Table 1). `bytes` is the whole transfer: byte 1
 -- is the command.
 use mathlib.Core.List.{List, [], _∷_}
 use Prim.Native.Nat.{ℕ, _%_}

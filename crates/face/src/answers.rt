@@ -47,7 +47,7 @@ fn complaint(out: &mut [u8], at: usize, number: u64) -> usize {
     text(out, n, b": expected ")
 }
 
-pub fn too_long(out: &mut [u8], at: usize, number: u64) -> usize {
+pub(crate) fn too_long(out: &mut [u8], at: usize, number: u64) -> usize {
     let n = complaint(out, at, number);
     text(out, n, b"a line of at most 65536 bytes\n")
 }
@@ -106,7 +106,7 @@ fn pins(d: Device, out: &mut [u8], at: usize) -> usize {
 }
 
 // A blank line has no answer.
-pub fn answer(d: Device, line: &[u8], number: u64, out: &mut [u8], at: usize) -> Turn {
+pub(crate) fn answer(d: Device, line: &[u8], number: u64, out: &mut [u8], at: usize) -> Turn {
     let l = line::read_line(line);
     let asked = l.asked;
     let given = l.bytes;

@@ -29,7 +29,7 @@ fn reply_length(command: u8) -> usize {
     }
 }
 
-pub fn transfer(d: Device, sent: [u8; 16], count: usize, room: u8) -> Transferred {
+pub(crate) fn transfer(d: Device, sent: [u8; 16], count: usize, room: u8) -> Transferred {
     let given = at_most_16(count);
     let lent = at_most_16(room as usize);
     let mut reply = [0u8; 16];
@@ -55,7 +55,7 @@ pub fn transfer(d: Device, sent: [u8; 16], count: usize, room: u8) -> Transferre
 }
 
 // The payload is the first eight bytes.
-pub fn happens(d: Device, event: Event, b: [u8; 16]) -> Outcome {
+pub(crate) fn happens(d: Device, event: Event, b: [u8; 16]) -> Outcome {
     let payload = [b[0], b[1], b[2], b[3], b[4], b[5], b[6], b[7]];
     bus::event(d, event, payload)
 }

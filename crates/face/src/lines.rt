@@ -8,7 +8,7 @@ pub struct Held {
     pub commented: bool,
 }
 
-pub fn nothing() -> Held {
+pub(crate) fn nothing() -> Held {
     Held {
         length: 0,
         commented: false,
@@ -47,7 +47,7 @@ fn hold(h: Held, b: u8, line: &mut [u8]) -> Held {
 }
 
 // The bytes from `from` on, up to the end of the line or of the chunk.
-pub fn gather(h: Held, chunk: &[u8], from: usize, line: &mut [u8]) -> Step
+pub(crate) fn gather(h: Held, chunk: &[u8], from: usize, line: &mut [u8]) -> Step
     requires { ⌜ from < length (now chunk) ⌝ }
     ensures { λ r. ⌜ (from < r .next) × (r .next ≤ length (now (chunk .entry))) ⌝ }
 {

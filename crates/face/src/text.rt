@@ -1,6 +1,6 @@
 // Text at a place of the buffer of answers. Each function gives back the place after it. What finds no room is left out;
 // the buffer is written before that can happen.
-pub fn put(out: &mut [u8], at: usize, b: u8) -> usize {
+pub(crate) fn put(out: &mut [u8], at: usize, b: u8) -> usize {
     if at < out.len() {
         out[at] = b;
         at + 1
@@ -9,7 +9,7 @@ pub fn put(out: &mut [u8], at: usize, b: u8) -> usize {
     }
 }
 
-pub fn text(out: &mut [u8], at: usize, t: &[u8]) -> usize {
+pub(crate) fn text(out: &mut [u8], at: usize, t: &[u8]) -> usize {
     let mut n = at;
     let mut i: usize = 0;
     while i < t.len() {
@@ -19,7 +19,7 @@ pub fn text(out: &mut [u8], at: usize, t: &[u8]) -> usize {
     n
 }
 
-pub fn decimal(out: &mut [u8], at: usize, n: u64) -> usize {
+pub(crate) fn decimal(out: &mut [u8], at: usize, n: u64) -> usize {
     let mut digits = [0u8; 20];
     let k = io::decimal(n, &mut digits);
     text(out, at, &digits[..k])
@@ -34,13 +34,13 @@ fn digit(d: u8) -> u8 {
     }
 }
 
-pub fn hex(out: &mut [u8], at: usize, b: u8) -> usize {
+pub(crate) fn hex(out: &mut [u8], at: usize, b: u8) -> usize {
     let n = put(out, at, digit(b / 16));
     put(out, n, digit(b % 16))
 }
 
 // A space before each byte.
-pub fn bytes(out: &mut [u8], at: usize, b: [u8; 16], count: usize) -> usize {
+pub(crate) fn bytes(out: &mut [u8], at: usize, b: [u8; 16], count: usize) -> usize {
     let mut n = at;
     let mut i: usize = 0;
     while i < 16 {
@@ -55,7 +55,7 @@ pub fn bytes(out: &mut [u8], at: usize, b: [u8; 16], count: usize) -> usize {
 }
 
 // A name and a level, as `int=1`.
-pub fn pin(out: &mut [u8], at: usize, name: &[u8], high: bool) -> usize {
+pub(crate) fn pin(out: &mut [u8], at: usize, name: &[u8], high: bool) -> usize {
     let n = text(out, at, name);
     if high {
         put(out, n, b'1')

@@ -24,49 +24,9 @@ fn without_time(m: Message) -> [u8; 16]
     ensures { λ r. ⌜ r ≡ cut m 1 3 ⌝ }
 {
     let b = m.bytes;
-    [
-        b[0],
-        b[3],
-        b[4],
-        b[5],
-        b[6],
-        b[7],
-        b[8],
-        b[9],
-        b[10],
-        b[11],
-        b[12],
-        b[13],
-        b[14],
-        b[15],
-        0,
-        0,
-    ]
-}
-
-// Bytes 1 to 3 and 9 to 16.
-fn data_with_time(m: Message) -> [u8; 16]
-    ensures { λ r. ⌜ r ≡ cut m 3 8 ⌝ }
-{
-    let b = m.bytes;
-    [
-        b[0],
-        b[1],
-        b[2],
-        b[8],
-        b[9],
-        b[10],
-        b[11],
-        b[12],
-        b[13],
-        b[14],
-        b[15],
-        0,
-        0,
-        0,
-        0,
-        0,
-    ]
+    let mut s = tail(m, 2);
+    s[0] = b[0];
+    s
 }
 
 // Bytes 1 and 9 to 16.
@@ -74,24 +34,21 @@ fn data_only(m: Message) -> [u8; 16]
     ensures { λ r. ⌜ r ≡ cut m 1 8 ⌝ }
 {
     let b = m.bytes;
-    [
-        b[0],
-        b[8],
-        b[9],
-        b[10],
-        b[11],
-        b[12],
-        b[13],
-        b[14],
-        b[15],
-        0,
-        0,
-        0,
-        0,
-        0,
-        0,
-        0,
-    ]
+    let mut s = tail(m, 7);
+    s[0] = b[0];
+    s
+}
+
+// Bytes 1 to 3 and 9 to 16.
+fn data_with_time(m: Message) -> [u8; 16]
+    ensures { λ r. ⌜ r ≡ cut m 3 8 ⌝ }
+{
+    let b = m.bytes;
+    let mut s = tail(m, 5);
+    s[0] = b[0];
+    s[1] = b[1];
+    s[2] = b[2];
+    s
 }
 
 // Bytes 1 to 3.
@@ -99,7 +56,11 @@ fn tag_and_time(m: Message) -> [u8; 16]
     ensures { λ r. ⌜ r ≡ cut m 3 16 ⌝ }
 {
     let b = m.bytes;
-    [b[0], b[1], b[2], 0, 0, 0, 0, 0, 0, 0, 0, 0, 0, 0, 0, 0]
+    let mut s = tail(m, 13);
+    s[0] = b[0];
+    s[1] = b[1];
+    s[2] = b[2];
+    s
 }
 
 fn six(p: Pattern) -> [u8; 16]

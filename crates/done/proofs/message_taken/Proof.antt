@@ -1,6 +1,5 @@
 -- `done::message_taken` meets its contract. Assumes nothing.
 use Rattle.done.specs.Done.{messageTaken}
-use Rattle.base.specs.Pick.{picks, judges}
 use borrow.Author.Needs.{needs}
 use Rattle.done.proofs.message_taken.Statement.{statement}
 use Rattle.done.proofs.message_taken.Tie as tie
@@ -10,7 +9,7 @@ take-requires c κs = search needs
 
 returns : tie.Need-returns
 unfolding messageTaken
-returns c = rw (← c .take .ensures) (search (picks, judges))
+returns c = rw (c .take .ensures)
 
 pub message-taken-spec : {M : Type 1} → statement M
 message-taken-spec = tie.close (tie.spec take-requires returns)

@@ -12,7 +12,7 @@ share-requires c κs = search needs
 
 returns : tie.Need-returns
 unfolding stat
-returns c = rw (← c .before .statf .ensures, ← c .share .ensures)
+returns c = rw (c .share .ensures, c .before .statf .ensures)
 
 pub stat-spec : {M : Type 1} → statement M
 stat-spec = tie.close (tie.spec statf-requires share-requires returns)

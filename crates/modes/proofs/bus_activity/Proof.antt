@@ -1,4 +1,7 @@
 -- `modes::bus_activity` meets its contract. Assumes nothing.
+use Rattle.chip.specs.State.{sleep}
+use Rattle.base.specs.Bit.{bit}
+use borrow.Author.Tests.{eq-eqb}
 use Rattle.modes.specs.Modes.{busActivity}
 use Rattle.base.specs.Pick.{picks, judges}
 use borrow.Author.Needs.{needs}
@@ -16,7 +19,14 @@ raised-requires c κs = search needs
 
 returns : tie.Need-returns
 unfolding busActivity
-returns c = rw (← c .before .changed .ensures, ← c .raised .ensures) (search (picks, judges, c .before .before .before .if2 .taken, c .before .before .before .before .if1 .taken))
+returns c =
+    let d = c .before .before .before .before .before .args .d in
+    rw (
+      eq-eqb (d .acting) sleep (c .before .before .before .before .if1 .taken),
+      eq-eqb (bit 4 (d .regs .ctrl0)) 1 (c .before .before .before .if2 .taken),
+      c .raised .ensures,
+      c .before .changed .ensures,
+    )
 
 returns-2 : tie.Need-returns-2
 unfolding busActivity

@@ -13,7 +13,7 @@ changed-requires c κs = search needs
 
 returns : tie.Need-returns
 unfolding busQuiet
-returns c = rw (← c .before .before .can-sleep .ensures, ← c .changed .ensures) (search (picks, judges, c .before .if1 .taken))
+returns c = rw (c .changed .ensures, ← c .before .before .can-sleep .ensures) (search (picks, c .before .if1 .taken))
 
 returns-2 : tie.Need-returns-2
 unfolding busQuiet

@@ -39,7 +39,20 @@ raised-requires-3 c κs = search needs
 
 returns : tie.Need-returns
 unfolding arrived
-returns c = rw (← c .before .before .before .before .before .before .before .before .before .before .before .before .hit .ensures, ← c .before .before .before .before .before .before .before .before .before .before .before .reason .ensures, ← c .before .before .before .before .before .before .before .before .before .before .is-queued .ensures, ← c .before .before .before .before .before .before .before .before .before .filhit .ensures, ← c .before .before .before .before .before .before .before .before .received .ensures, ← c .before .before .before .before .before .before .queue-after .ensures, ← c .before .before .before .before .raised .ensures, ← c .before .before .before .queued-flag .ensures, ← c .before .before .raised2 .ensures, ← c .before .filter-flag .ensures, ← c .raised3 .ensures)
+returns c =
+    rw (
+      c .raised3 .ensures,
+      c .before .filter-flag .ensures,
+      c .before .before .raised2 .ensures,
+      c .before .before .before .queued-flag .ensures,
+      c .before .before .before .before .raised .ensures,
+      c .before .before .before .before .before .before .queue-after .ensures,
+      c .before .before .before .before .before .before .before .before .received .ensures,
+      c .before .before .before .before .before .before .before .before .before .filhit .ensures,
+      c .before .before .before .before .before .before .before .before .before .before .is-queued .ensures,
+      c .before .before .before .before .before .before .before .before .before .before .before .reason .ensures,
+      c .before .before .before .before .before .before .before .before .before .before .before .before .hit .ensures,
+    )
 
 pub arrived-spec : {M : Type 1} → statement M
 arrived-spec =

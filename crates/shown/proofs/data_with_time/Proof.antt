@@ -7,59 +7,43 @@ use borrow.Author.Needs.{needs}
 use Rattle.shown.proofs.data_with_time.Statement.{statement}
 use Rattle.shown.proofs.data_with_time.Tie as tie
 
-array-read-t5 : tie.Need-array-read-t5
-array-read-t5 c = search needs
+tail-requires : tie.Need-tail-requires
+tail-requires c κs = search needs
 
-array-read-t8 : tie.Need-array-read-t8
-array-read-t8 c = search needs
+array-read-s : tie.Need-array-read-s
+array-read-s c = search needs
 
-array-read-t11 : tie.Need-array-read-t11
-array-read-t11 c = search needs
+array-write-s : tie.Need-array-write-s
+array-write-s c = search needs
 
-array-read-t14 : tie.Need-array-read-t14
-array-read-t14 c = search needs
+array-read-s-2 : tie.Need-array-read-s-2
+array-read-s-2 c = search needs
 
-array-read-t17 : tie.Need-array-read-t17
-array-read-t17 c = search needs
+array-write-s-2 : tie.Need-array-write-s-2
+array-write-s-2 c = search needs
 
-array-read-t20 : tie.Need-array-read-t20
-array-read-t20 c = search needs
+array-read-s-3 : tie.Need-array-read-s-3
+array-read-s-3 c = search needs
 
-array-read-t23 : tie.Need-array-read-t23
-array-read-t23 c = search needs
-
-array-read-t26 : tie.Need-array-read-t26
-array-read-t26 c = search needs
-
-array-read-t29 : tie.Need-array-read-t29
-array-read-t29 c = search needs
-
-array-read-t32 : tie.Need-array-read-t32
-array-read-t32 c = search needs
-
-array-read-t35 : tie.Need-array-read-t35
-array-read-t35 c = search needs
+array-write-s-3 : tie.Need-array-write-s-3
+array-write-s-3 c = search needs
 
 returns : tie.Need-returns
 unfolding cut
 returns c =
-    let b = c .before .args .m .bytes in
+    let b = c .before .before .args .m .bytes in
     let sixteen : length b ≡ 16 = search needs in
-    rw (listed 0 b, sixteen)
+    rw (c .tail .ensures) (rw (listed 0 b, sixteen))
 
 pub data-with-time-spec : {M : Type 1} → statement M
 data-with-time-spec =
     tie.close
     (tie.spec
-    array-read-t5
-    array-read-t8
-    array-read-t11
-    array-read-t14
-    array-read-t17
-    array-read-t20
-    array-read-t23
-    array-read-t26
-    array-read-t29
-    array-read-t32
-    array-read-t35
+    tail-requires
+    array-read-s
+    array-write-s
+    array-read-s-2
+    array-write-s-2
+    array-read-s-3
+    array-write-s-3
     returns)

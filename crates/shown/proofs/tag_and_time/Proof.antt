@@ -7,21 +7,43 @@ use borrow.Author.Needs.{needs}
 use Rattle.shown.proofs.tag_and_time.Statement.{statement}
 use Rattle.shown.proofs.tag_and_time.Tie as tie
 
-array-read-t5 : tie.Need-array-read-t5
-array-read-t5 c = search needs
+tail-requires : tie.Need-tail-requires
+tail-requires c κs = search needs
 
-array-read-t8 : tie.Need-array-read-t8
-array-read-t8 c = search needs
+array-read-s : tie.Need-array-read-s
+array-read-s c = search needs
 
-array-read-t11 : tie.Need-array-read-t11
-array-read-t11 c = search needs
+array-write-s : tie.Need-array-write-s
+array-write-s c = search needs
+
+array-read-s-2 : tie.Need-array-read-s-2
+array-read-s-2 c = search needs
+
+array-write-s-2 : tie.Need-array-write-s-2
+array-write-s-2 c = search needs
+
+array-read-s-3 : tie.Need-array-read-s-3
+array-read-s-3 c = search needs
+
+array-write-s-3 : tie.Need-array-write-s-3
+array-write-s-3 c = search needs
 
 returns : tie.Need-returns
 unfolding cut
 returns c =
-    let b = c .before .args .m .bytes in
+    let b = c .before .before .args .m .bytes in
     let sixteen : length b ≡ 16 = search needs in
-    rw (listed 0 b, sixteen)
+    rw (c .tail .ensures) (rw (listed 0 b, sixteen))
 
 pub tag-and-time-spec : {M : Type 1} → statement M
-tag-and-time-spec = tie.close (tie.spec array-read-t5 array-read-t8 array-read-t11 returns)
+tag-and-time-spec =
+    tie.close
+    (tie.spec
+    tail-requires
+    array-read-s
+    array-write-s
+    array-read-s-2
+    array-write-s-2
+    array-read-s-3
+    array-write-s-3
+    returns)

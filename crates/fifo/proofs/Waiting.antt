@@ -1,0 +1,39 @@
+-- What waits after a message was put or taken. Assumes nothing.
+use mathlib.Core.Path.{_≡_, refl, ap, _∙_}
+use mathlib.Core.List.{List, [], _∷_, _++_}
+use Prim.Native.Nat.{ℕ, suc, _+_, _-_, _%_, _<_}
+use native.Mathlib.Omega.{arith}
+use native.Mathlib.Nat.{add-zero, zero-add}
+use native.Mathlib.Numerals.{add-one}
+use borrow.Author.Tests.{lt-ltb, ne-eqb}
+use lib.ListN.{length, getD, set}
+use lib.Seq.{getD-set-same, getD-set-other}
+use Rattle.base.proofs.Lists.{tabulate-same, tabulate-more, shift}
+use Rattle.fifo.specs.declared.Fifo.{Fifo}
+use Rattle.fifo.specs.declared.Message.{Message}
+use Rattle.fifo.specs.Queue.{empty, absent, place, waiting, put, take, next}
+
+pub empty-waits : waiting empty ≡ []
+unfolding empty
+empty-waits = refl
+
+-- a message that finds room waits behind the others
+pub put-waits : (q : Fifo) (m : Message) → length (q .items) ≡ 8 → q .count < 8 → waiting (put q m) ≡ waiting q ++ (m ∷ [])
+unfolding put
+put-waits q m long room =
+    rw (lt-ltb (q .count) 8 room, add-one (q .count))
+    (tabulate-more (λ (k : ℕ). getD (set (q .items) (place q (q .count)) m) (place q k) absent) 0 (q .count)
+    ∙ rw (zero-add (q .count), getD-set-same (q .items) (place q (q .count)) m absent (omega arith))
+    (ap (λ (l : List Message). l ++ (m ∷ []))
+    (tabulate-same _ _ 0 (q .count) (λ k p below. getD-set-other (q .items) (place q (q .count)) (place q k) m absent (λ same. omega arith)))))
+
+-- what is taken is the oldest, and the others wait on
+pub take-waits : (q : Fifo) (n : ℕ) → q .count ≡ suc n → waiting q ≡ next q ∷ waiting (take q)
+unfolding take next
+take-waits q n some =
+    let less : suc n - 1 ≡ n = omega arith in
+    rw (ne-eqb (q .count) 0 (λ none. omega arith), some, less)
+    (rw (add-zero (q .first))
+    (ap (λ (l : List Message). getD (q .items) (q .first % 8) absent ∷ l)
+    (shift (λ (k : ℕ). getD (q .items) (place q k) absent) 0 n
+    ∙ tabulate-same _ _ 0 n (λ k p below. ap (λ (i : ℕ). getD (q .items) i absent) (omega arith)))))
