@@ -1,6 +1,5 @@
 -- `bus::pins` meets its contract. Assumes nothing.
 use Rattle.bus.specs.Pins.{pins}
-use Rattle.base.specs.Pick.{picks, judges}
 use borrow.Author.Needs.{needs}
 use Rattle.bus.proofs.pins.Statement.{statement}
 use Rattle.bus.proofs.pins.Tie as tie
@@ -19,7 +18,7 @@ gp-requires-2 c κs = search needs
 
 returns : tie.Need-returns
 unfolding pins
-returns c = rw (← c .before .before .before .int .ensures, ← c .before .before .stat .ensures, ← c .before .gp .ensures, ← c .gp2 .ensures) (search (picks, judges))
+returns c = rw (c .gp2 .ensures, c .before .gp .ensures, c .before .before .stat .ensures, c .before .before .before .int .ensures)
 
 pub pins-spec : {M : Type 1} → statement M
 pins-spec = tie.close (tie.spec int-requires stat-requires gp-requires gp-requires-2 returns)
