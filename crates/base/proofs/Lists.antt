@@ -52,4 +52,6 @@ tabulate-same {A = A} f g i (suc n) h =
 -- a table with one entry more
 pub tabulate-more : {A : Type 0} (f : ℕ → A) (i n : ℕ) → tabulate f i (suc n) ≡ tabulate f i n ++ (f (i + n) ∷ [])
 tabulate-more {A = A} f i zero = rw (add-zero i)
-tabulate-more {A = A} f i (suc n) = ap (λ (l : List A). f i ∷ l) (tabulate-more f (suc i) n ∙ ap (λ (k : ℕ). tabulate f (suc i) n ++ (f k ∷ [])) (suc-add i n ∙ sym (add-suc i n)))
+tabulate-more {A = A} f i (suc n) =
+    ap (λ (l : List A). f i ∷ l)
+    (tabulate-more f (suc i) n ∙ ap (λ (k : ℕ). tabulate f (suc i) n ++ (f k ∷ [])) (suc-add i n ∙ sym (add-suc i n)))

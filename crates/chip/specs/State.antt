@@ -46,7 +46,7 @@ alone = 2
 -- 000's defaults: CTRL0 has MODE 100, every other register is zero.
 abbrev pub fresh-registers : Registers
 fresh-registers = record {
-  ctrl0 = 128;
+  ctrl0 = 0x80;
   ctrl1 = 0;
   btr0 = 0;
   btr1 = 0;

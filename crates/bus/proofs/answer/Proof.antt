@@ -13,14 +13,25 @@ impossible-requires c κs = search needs
 
 returns : tie.Need-returns
 unfolding answer
-returns c = rw (← c .before .before .before .proper .ensures, ← c .before .impossible .ensures) (search (picks, judges, c .if2 .taken, c .before .before .if1 .taken))
+returns c =
+    rw (
+      ← c .before .before .before .proper .ensures,
+      ← c .before .impossible .ensures,
+    )
+    (search (picks, judges, c .if2 .taken, c .before .before .if1 .taken))
 
 said-requires : tie.Need-said-requires
 said-requires c κs = search needs
 
 returns-2 : tie.Need-returns-2
 unfolding answer
-returns-2 c = rw (← c .before .before .before .before .proper .ensures, ← c .before .before .impossible .ensures, ← c .said .ensures) (search (picks, judges, c .before .if2 .left, c .before .before .before .if1 .taken))
+returns-2 c =
+    rw (
+      ← c .before .before .before .before .proper .ensures,
+      ← c .before .before .impossible .ensures,
+      ← c .said .ensures,
+    )
+    (search (picks, judges, c .before .if2 .left, c .before .before .before .if1 .taken))
 
 returns-3 : tie.Need-returns-3
 unfolding answer

@@ -22,7 +22,14 @@ sent-requires-2 c κs = search needs
 
 returns : tie.Need-returns
 unfolding completed
-returns c = rw (← c .before .before .before .header-in .ensures, ← c .before .before .data-in .ensures, ← c .before .arrived .ensures, ← c .sent .ensures) (search (picks, judges, c .before .before .before .before .before .before .if1 .taken))
+returns c =
+    rw (
+      ← c .before .before .before .header-in .ensures,
+      ← c .before .before .data-in .ensures,
+      ← c .before .arrived .ensures,
+      ← c .sent .ensures,
+    )
+    (search (picks, judges, c .before .before .before .before .before .before .if1 .taken))
 
 returns-2 : tie.Need-returns-2
 unfolding completed

@@ -19,7 +19,14 @@ stopped-requires c κs = search needs
 
 returns : tie.Need-returns
 unfolding errorSent
-returns c = rw (← c .before .before .before .counted-transmit-error .ensures, ← c .before .before .err-bit .ensures, ← c .before .bus-error .ensures, ← c .stopped .ensures) (search (picks, judges))
+returns c =
+    rw (
+      ← c .before .before .before .counted-transmit-error .ensures,
+      ← c .before .before .err-bit .ensures,
+      ← c .before .bus-error .ensures,
+      ← c .stopped .ensures,
+    )
+    (search (picks, judges))
 
 pub error-sent-spec : {M : Type 1} → statement M
 error-sent-spec =

@@ -12,11 +12,23 @@ up-to-requires c κs = search needs
 
 returns : tie.Need-returns
 unfolding elevenRecessive
-returns c = rw (c .before .before .before .if1 .taken, ← c .before .before .up-to .ensures, eq-eqb (c .before .before .up-to .result) 128 (omega arith), c .if3 .taken)
+returns c =
+    rw (
+      c .before .before .before .if1 .taken,
+      ← c .before .before .up-to .ensures,
+      eq-eqb (c .before .before .up-to .result) 128 (omega arith),
+      c .if3 .taken,
+    )
 
 returns-2 : tie.Need-returns-2
 unfolding elevenRecessive
-returns-2 c = rw (c .before .before .before .if1 .taken, ← c .before .before .up-to .ensures, eq-eqb (c .before .before .up-to .result) 128 (omega arith), c .if3 .left)
+returns-2 c =
+    rw (
+      c .before .before .before .if1 .taken,
+      ← c .before .before .up-to .ensures,
+      eq-eqb (c .before .before .up-to .result) 128 (omega arith),
+      c .if3 .left,
+    )
 
 returns-3 : tie.Need-returns-3
 unfolding elevenRecessive

@@ -30,7 +30,14 @@ put-requires c κs = search needs
 
 returns-2 : tie.Need-returns-2
 unfolding messageWritten
-returns-2 c = rw (c .put .ensures, c .before .before .stored .ensures, c .before .before .before .before .read-message .ensures, part-to-end (c .before .before .before .before .before .before .before .before .args .bytes .now) 1) (search (picks, c .before .before .before .before .before .before .if1 .left))
+returns-2 c =
+    rw (
+      c .put .ensures,
+      c .before .before .stored .ensures,
+      c .before .before .before .before .read-message .ensures,
+      part-to-end (c .before .before .before .before .before .before .before .before .args .bytes .now) 1,
+    )
+    (search (picks, c .before .before .before .before .before .before .if1 .left))
 
 pub message-written-spec : {M : Type 1} → statement M
 message-written-spec =

@@ -25,7 +25,16 @@ at-requires-6 c κs = search needs
 
 returns : tie.Need-returns
 unfolding pattern
-returns c = rw (← c .before .before .before .before .before .at .ensures, ← c .before .before .before .before .at2 .ensures, ← c .before .before .before .at3 .ensures, ← c .before .before .at4 .ensures, ← c .before .at5 .ensures, ← c .at6 .ensures) (search (picks, judges))
+returns c =
+    rw (
+      ← c .before .before .before .before .before .at .ensures,
+      ← c .before .before .before .before .at2 .ensures,
+      ← c .before .before .before .at3 .ensures,
+      ← c .before .before .at4 .ensures,
+      ← c .before .at5 .ensures,
+      ← c .at6 .ensures,
+    )
+    (search (picks, judges))
 
 pub pattern-spec : {M : Type 1} → statement M
 pattern-spec =

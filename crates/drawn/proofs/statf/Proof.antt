@@ -75,11 +75,34 @@ flag-requires-8 : tie.Need-flag-requires-8
 flag-requires-8 c κs = search needs
 
 add-result-7 : tie.Need-add-result-7
-add-result-7 c = omega (arith, c .flag8 .ensures .1, c .before .before .flag7 .ensures .1, c .before .before .before .before .flag6 .ensures .1, c .before .before .before .before .before .flag5 .ensures .1, c .before .before .before .before .before .before .before .flag4 .ensures .1, c .before .before .before .before .before .before .before .before .before .flag3 .ensures .1, c .before .before .before .before .before .before .before .before .before .before .before .flag2 .ensures .1, c .before .before .before .before .before .before .before .before .before .before .before .before .before .flag .ensures .1)
+add-result-7 c =
+    omega (
+      arith,
+      c .flag8 .ensures .1,
+      c .before .before .flag7 .ensures .1,
+      c .before .before .before .before .flag6 .ensures .1,
+      c .before .before .before .before .before .flag5 .ensures .1,
+      c .before .before .before .before .before .before .before .flag4 .ensures .1,
+      c .before .before .before .before .before .before .before .before .before .flag3 .ensures .1,
+      c .before .before .before .before .before .before .before .before .before .before .before .flag2 .ensures .1,
+      c .before .before .before .before .before .before .before .before .before .before .before .before .before .flag .ensures .1,
+    )
 
 returns : tie.Need-returns
 unfolding statf
-returns c = rw (c .flag8 .ensures .0, c .before .before .flag7 .ensures .0, c .before .before .before .before .flag6 .ensures .0, c .before .before .before .before .before .flag5 .ensures .0, c .before .before .before .before .before .before .errp .ensures, c .before .before .before .before .before .before .before .flag4 .ensures .0, c .before .before .before .before .before .before .before .before .errw .ensures, c .before .before .before .before .before .before .before .before .before .flag3 .ensures .0, c .before .before .before .before .before .before .before .before .before .before .before .flag2 .ensures .0, c .before .before .before .before .before .before .before .before .before .before .before .before .before .flag .ensures .0)
+returns c =
+    rw (
+      c .flag8 .ensures .0,
+      c .before .before .flag7 .ensures .0,
+      c .before .before .before .before .flag6 .ensures .0,
+      c .before .before .before .before .before .flag5 .ensures .0,
+      c .before .before .before .before .before .before .errp .ensures,
+      c .before .before .before .before .before .before .before .flag4 .ensures .0,
+      c .before .before .before .before .before .before .before .before .errw .ensures,
+      c .before .before .before .before .before .before .before .before .before .flag3 .ensures .0,
+      c .before .before .before .before .before .before .before .before .before .before .before .flag2 .ensures .0,
+      c .before .before .before .before .before .before .before .before .before .before .before .before .before .flag .ensures .0,
+    )
 
 pub statf-spec : {M : Type 1} → statement M
 statf-spec =

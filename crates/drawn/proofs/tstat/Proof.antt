@@ -10,11 +10,15 @@ enabled-requires c κs = search needs
 
 returns : tie.Need-returns
 unfolding tstat
-returns c = rw (← c .before .before .enabled .ensures) (search (picks, judges, c .if3 .taken, c .before .if2 .taken, c .before .before .before .if1 .taken))
+returns c =
+    rw (← c .before .before .enabled .ensures)
+    (search (picks, judges, c .if3 .taken, c .before .if2 .taken, c .before .before .before .if1 .taken))
 
 returns-2 : tie.Need-returns-2
 unfolding tstat
-returns-2 c = rw (← c .before .before .enabled .ensures) (search (picks, judges, c .if3 .left, c .before .if2 .taken, c .before .before .before .if1 .taken))
+returns-2 c =
+    rw (← c .before .before .enabled .ensures)
+    (search (picks, judges, c .if3 .left, c .before .if2 .taken, c .before .before .before .if1 .taken))
 
 returns-3 : tie.Need-returns-3
 unfolding tstat

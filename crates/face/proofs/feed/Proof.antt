@@ -26,10 +26,30 @@ after-requires : tie.Need-after-requires Inv-loop μ-loop
 after-requires c κs = search needs
 
 same-length : tie.Need-same-length Inv-loop μ-loop
-same-length c = search (needs, c .before .slice-known4 .given, c .before .before .out .given, c .before .before .before .before .before .before .before .before .slice-known3 .given, c .before .before .before .before .before .before .before .before .before .line .given, c .before .before .before .before .before .before .before .before .before .before .gather .ensures, c .before .before .before .before .before .before .before .before .before .before .before .before .loop-test .taken, c .before .before .before .before .before .before .before .before .before .before .before .before .before .loop .inv)
+same-length c =
+    search (
+      needs,
+      c .before .slice-known4 .given,
+      c .before .before .out .given,
+      c .before .before .before .before .before .before .before .before .slice-known3 .given,
+      c .before .before .before .before .before .before .before .before .before .line .given,
+      c .before .before .before .before .before .before .before .before .before .before .gather .ensures,
+      c .before .before .before .before .before .before .before .before .before .before .before .before .loop-test .taken,
+      c .before .before .before .before .before .before .before .before .before .before .before .before .before .loop .inv,
+    )
 
 same-length-2 : tie.Need-same-length-2 Inv-loop μ-loop
-same-length-2 c = search (needs, c .before .slice-known4 .given, c .before .before .out .given, c .before .before .before .before .before .before .before .before .slice-known3 .given, c .before .before .before .before .before .before .before .before .before .line .given, c .before .before .before .before .before .before .before .before .before .before .gather .ensures, c .before .before .before .before .before .before .before .before .before .before .before .before .loop-test .taken, c .before .before .before .before .before .before .before .before .before .before .before .before .before .loop .inv)
+same-length-2 c =
+    search (
+      needs,
+      c .before .slice-known4 .given,
+      c .before .before .out .given,
+      c .before .before .before .before .before .before .before .before .slice-known3 .given,
+      c .before .before .before .before .before .before .before .before .before .line .given,
+      c .before .before .before .before .before .before .before .before .before .before .gather .ensures,
+      c .before .before .before .before .before .before .before .before .before .before .before .before .loop-test .taken,
+      c .before .before .before .before .before .before .before .before .before .before .before .before .before .loop .inv,
+    )
 
 returns : tie.Need-returns Inv-loop μ-loop
 returns c = search needs
@@ -38,7 +58,17 @@ loop-less : tie.Need-loop-less Inv-loop μ-loop
 loop-less c = search needs
 
 loop-again : tie.Need-loop-again Inv-loop μ-loop
-loop-again c = search (needs, c .before .slice-known4 .given, c .before .before .out .given, c .before .before .before .before .before .before .before .before .slice-known3 .given, c .before .before .before .before .before .before .before .before .before .line .given, c .before .before .before .before .before .before .before .before .before .before .gather .ensures, c .before .before .before .before .before .before .before .before .before .before .before .before .loop-test .taken, c .before .before .before .before .before .before .before .before .before .before .before .before .before .loop .inv)
+loop-again c =
+    search (
+      needs,
+      c .before .slice-known4 .given,
+      c .before .before .out .given,
+      c .before .before .before .before .before .before .before .before .slice-known3 .given,
+      c .before .before .before .before .before .before .before .before .before .line .given,
+      c .before .before .before .before .before .before .before .before .before .before .gather .ensures,
+      c .before .before .before .before .before .before .before .before .before .before .before .before .loop-test .taken,
+      c .before .before .before .before .before .before .before .before .before .before .before .before .before .loop .inv,
+    )
 
 same-length-3 : tie.Need-same-length-3 Inv-loop μ-loop
 same-length-3 c = search needs

@@ -13,7 +13,12 @@ use Rattle.host.proofs.transfer.Statement.{statement}
 use Rattle.host.proofs.transfer.Tie as tie
 
 -- the verdict, as the definition gives it
-told : (c : tie.After-verdict2) → judged (c .before .before .before .before .before .args .d) (c .before .before .before .before .before .args .bytes .now) (length (c .before .before .before .before .before .args .reply .now)) ≡ Accepted (c .verdict2 .given .0 .0)
+told : (c : tie.After-verdict2)
+    → judged
+    (c .before .before .before .before .before .args .d)
+    (c .before .before .before .before .before .args .bytes .now)
+    (length (c .before .before .before .before .before .args .reply .now))
+    ≡ Accepted (c .verdict2 .given .0 .0)
 told c = sym (c .before .before .judge .ensures) ∙ c .verdict2 .given .1
 
 short : (c : tie.After-verdict2) → c .verdict2 .given .0 .0 .out ≤ 16

@@ -16,7 +16,13 @@ reason-requires c κs = search needs
 
 returns : tie.Need-returns
 unfolding echo
-returns c = rw (← c .before .before .header-in .ensures, ← c .before .data-in .ensures, ← c .reason .ensures) (search (picks, judges, c .before .before .before .before .before .if1 .taken))
+returns c =
+    rw (
+      ← c .before .before .header-in .ensures,
+      ← c .before .data-in .ensures,
+      ← c .reason .ensures,
+    )
+    (search (picks, judges, c .before .before .before .before .before .if1 .taken))
 
 returns-2 : tie.Need-returns-2
 unfolding echo

@@ -85,7 +85,13 @@ returns-3 c = rw (c .before .enum-told2 .given .1) (c .no-errors2 .ensures)
 
 returns-4 : tie.Need-returns-4
 unfolding impossible
-returns-4 c = rw (c .before .before .before .enum-told3 .given .1, ← c .before .before .runs .ensures, ← c .no-errors3 .ensures) (search (picks, judges, c .before .if1 .taken))
+returns-4 c =
+    rw (
+      c .before .before .before .enum-told3 .given .1,
+      ← c .before .before .runs .ensures,
+      ← c .no-errors3 .ensures,
+    )
+    (search (picks, judges, c .before .if1 .taken))
 
 returns-5 : tie.Need-returns-5
 unfolding impossible

@@ -16,19 +16,43 @@ reason-requires c κs = search needs
 
 returns : tie.Need-returns
 unfolding reason
-returns c = rw (← c .before .before .before .takes-no-frames .ensures, ← c .before .before .unacknowledged .ensures, ← c .before .reason .ensures) (search (picks, judges, c .if1 .taken))
+returns c =
+    rw (
+      ← c .before .before .before .takes-no-frames .ensures,
+      ← c .before .before .unacknowledged .ensures,
+      ← c .before .reason .ensures,
+    )
+    (search (picks, judges, c .if1 .taken))
 
 returns-2 : tie.Need-returns-2
 unfolding reason
-returns-2 c = rw (← c .before .before .before .before .takes-no-frames .ensures, ← c .before .before .before .unacknowledged .ensures, ← c .before .before .reason .ensures) (search (picks, judges, c .if2 .taken, c .before .if1 .left))
+returns-2 c =
+    rw (
+      ← c .before .before .before .before .takes-no-frames .ensures,
+      ← c .before .before .before .unacknowledged .ensures,
+      ← c .before .before .reason .ensures,
+    )
+    (search (picks, judges, c .if2 .taken, c .before .if1 .left))
 
 returns-3 : tie.Need-returns-3
 unfolding reason
-returns-3 c = rw (← c .before .before .before .before .before .takes-no-frames .ensures, ← c .before .before .before .before .unacknowledged .ensures, ← c .before .before .before .reason .ensures) (search (picks, judges, c .if3 .taken, c .before .if2 .left, c .before .before .if1 .left))
+returns-3 c =
+    rw (
+      ← c .before .before .before .before .before .takes-no-frames .ensures,
+      ← c .before .before .before .before .unacknowledged .ensures,
+      ← c .before .before .before .reason .ensures,
+    )
+    (search (picks, judges, c .if3 .taken, c .before .if2 .left, c .before .before .if1 .left))
 
 returns-4 : tie.Need-returns-4
 unfolding reason
-returns-4 c = rw (← c .before .before .before .before .before .takes-no-frames .ensures, ← c .before .before .before .before .unacknowledged .ensures, ← c .before .before .before .reason .ensures) (search (picks, judges, c .if3 .left, c .before .if2 .left, c .before .before .if1 .left))
+returns-4 c =
+    rw (
+      ← c .before .before .before .before .before .takes-no-frames .ensures,
+      ← c .before .before .before .before .unacknowledged .ensures,
+      ← c .before .before .before .reason .ensures,
+    )
+    (search (picks, judges, c .if3 .left, c .before .if2 .left, c .before .before .if1 .left))
 
 pub reason-spec : {M : Type 1} → statement M
 reason-spec =

@@ -14,11 +14,15 @@ returns c = rw (← c .before .before .mode-of .ensures) (search (picks, judges,
 
 returns-2 : tie.Need-returns-2
 unfolding canSleep
-returns-2 c = rw (← c .before .before .before .mode-of .ensures) (search (picks, judges, c .if3 .taken, c .before .if2 .left, c .before .before .if1 .taken))
+returns-2 c =
+    rw (← c .before .before .before .mode-of .ensures)
+    (search (picks, judges, c .if3 .taken, c .before .if2 .left, c .before .before .if1 .taken))
 
 returns-3 : tie.Need-returns-3
 unfolding canSleep
-returns-3 c = rw (← c .before .before .before .mode-of .ensures) (search (picks, judges, c .if3 .left, c .before .if2 .left, c .before .before .if1 .taken))
+returns-3 c =
+    rw (← c .before .before .before .mode-of .ensures)
+    (search (picks, judges, c .if3 .left, c .before .if2 .left, c .before .before .if1 .taken))
 
 returns-4 : tie.Need-returns-4
 unfolding canSleep

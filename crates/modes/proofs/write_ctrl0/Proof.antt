@@ -21,7 +21,9 @@ returns-2 c = rw (← c .before .before .before .mode-of .ensures) (search (pick
 
 returns-3 : tie.Need-returns-3
 unfolding writeCtrl0
-returns-3 c = rw (← c .before .before .before .before .mode-of .ensures) (search (picks, judges, c .if3 .taken, c .before .if2 .left, c .before .before .before .if1 .left))
+returns-3 c =
+    rw (← c .before .before .before .before .mode-of .ensures)
+    (search (picks, judges, c .if3 .taken, c .before .if2 .left, c .before .before .before .if1 .left))
 
 stopped-requires : tie.Need-stopped-requires
 stopped-requires c κs = search needs
@@ -31,7 +33,19 @@ changed-requires c κs = search needs
 
 returns-4 : tie.Need-returns-4
 unfolding writeCtrl0
-returns-4 c = rw (← c .before .before .before .before .before .before .mode-of .ensures, ← c .before .stopped .ensures, ← c .changed .ensures) (search (picks, judges, c .before .before .if3 .left, c .before .before .before .if2 .left, c .before .before .before .before .before .if1 .left))
+returns-4 c =
+    rw (
+      ← c .before .before .before .before .before .before .mode-of .ensures,
+      ← c .before .stopped .ensures,
+      ← c .changed .ensures,
+    )
+    (search (
+      picks,
+      judges,
+      c .before .before .if3 .left,
+      c .before .before .before .if2 .left,
+      c .before .before .before .before .before .if1 .left,
+    ))
 
 pub write-ctrl0-spec : {M : Type 1} → statement M
 write-ctrl0-spec =

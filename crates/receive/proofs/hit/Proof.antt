@@ -22,7 +22,15 @@ lowest-requires c κs = search needs
 
 returns : tie.Need-returns
 unfolding hit
-returns c = rw (c .lowest .ensures, c .before .compared .ensures, c .before .before .bank2 .ensures, c .before .before .before .bank .ensures, ← c .before .before .before .before .before .before .before .filton .ensures) (search (picks, c .before .before .before .before .before .before .if1 .taken))
+returns c =
+    rw (
+      c .lowest .ensures,
+      c .before .compared .ensures,
+      c .before .before .bank2 .ensures,
+      c .before .before .before .bank .ensures,
+      ← c .before .before .before .before .before .before .before .filton .ensures,
+    )
+    (search (picks, c .before .before .before .before .before .before .if1 .taken))
 
 returns-2 : tie.Need-returns-2
 unfolding hit

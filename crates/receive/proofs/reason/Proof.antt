@@ -19,7 +19,13 @@ room-requires c κs = search needs
 
 returns : tie.Need-returns
 unfolding reason
-returns c = rw (← c .before .before .before .filton .ensures, ← c .before .hit .ensures, ← c .passed .ensures) (search (picks, judges, c .before .before .if1 .taken))
+returns c =
+    rw (
+      ← c .before .before .before .filton .ensures,
+      ← c .before .hit .ensures,
+      ← c .passed .ensures,
+    )
+    (search (picks, judges, c .before .before .if1 .taken))
 
 returns-2 : tie.Need-returns-2
 unfolding reason

@@ -23,7 +23,14 @@ row-judged-requires c κs = search needs
 
 returns-2 : tie.Need-returns-2
 unfolding judged
-returns-2 c = rw (← c .before .before .before .before .before .proper .ensures, ← c .before .before .at .ensures, ← c .before .find .ensures, ← c .row-judged .ensures) (search (picks, judges, c .before .before .before .if2 .left, c .before .before .before .before .if1 .taken))
+returns-2 c =
+    rw (
+      ← c .before .before .before .before .before .proper .ensures,
+      ← c .before .before .at .ensures,
+      ← c .before .find .ensures,
+      ← c .row-judged .ensures,
+    )
+    (search (picks, judges, c .before .before .before .if2 .left, c .before .before .before .before .if1 .taken))
 
 returns-3 : tie.Need-returns-3
 unfolding judged

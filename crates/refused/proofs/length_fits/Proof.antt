@@ -40,7 +40,12 @@ right-length-requires c κs = search needs
 
 returns-3 : tie.Need-returns-3
 unfolding lengthFits
-returns-3 c = rw (c .right-length .ensures, part-to-end (c .before .before .before .before .before .before .before .before .args .bytes .now) 1) (search (picks, judges, c .before .before .if3 .taken, c .before .before .before .if2 .left, c .before .before .before .before .if1 .left))
+returns-3 c =
+    rw (
+      c .right-length .ensures,
+      part-to-end (c .before .before .before .before .before .before .before .before .args .bytes .now) 1,
+    )
+    (search (picks, judges, c .before .before .if3 .taken, c .before .before .before .if2 .left, c .before .before .before .before .if1 .left))
 
 returns-4 : tie.Need-returns-4
 unfolding lengthFits

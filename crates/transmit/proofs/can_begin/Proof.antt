@@ -17,15 +17,41 @@ returns c = search (picks, judges)
 
 returns-2 : tie.Need-returns-2
 unfolding canBegin
-returns-2 c = rw (← c .before .before .before .enabled .ensures, ← c .before .sends .ensures) (search (picks, judges, c .if4 .taken, c .before .before .if3 .taken, c .before .before .before .before .if2 .left, c .before .before .before .before .before .if1 .taken))
+returns-2 c =
+    rw (
+      ← c .before .before .before .enabled .ensures,
+      ← c .before .sends .ensures,
+    )
+    (search (
+      picks,
+      judges,
+      c .if4 .taken,
+      c .before .before .if3 .taken,
+      c .before .before .before .before .if2 .left,
+      c .before .before .before .before .before .if1 .taken,
+    ))
 
 returns-3 : tie.Need-returns-3
 unfolding canBegin
-returns-3 c = rw (← c .before .before .before .enabled .ensures, ← c .before .sends .ensures) (search (picks, judges, c .if4 .left, c .before .before .if3 .taken, c .before .before .before .before .if2 .left, c .before .before .before .before .before .if1 .taken))
+returns-3 c =
+    rw (
+      ← c .before .before .before .enabled .ensures,
+      ← c .before .sends .ensures,
+    )
+    (search (
+      picks,
+      judges,
+      c .if4 .left,
+      c .before .before .if3 .taken,
+      c .before .before .before .before .if2 .left,
+      c .before .before .before .before .before .if1 .taken,
+    ))
 
 returns-4 : tie.Need-returns-4
 unfolding canBegin
-returns-4 c = rw (← c .before .enabled .ensures) (search (picks, judges, c .if3 .left, c .before .before .if2 .left, c .before .before .before .if1 .taken))
+returns-4 c =
+    rw (← c .before .enabled .ensures)
+    (search (picks, judges, c .if3 .left, c .before .before .if2 .left, c .before .before .before .if1 .taken))
 
 returns-5 : tie.Need-returns-5
 unfolding canBegin

@@ -27,7 +27,15 @@ raised-requires c κs = search needs
 
 returns : tie.Need-returns
 unfolding sent
-returns c = rw (← c .before .before .before .before .before .before .before .before .before .before .before .fifo-after .ensures, ← c .before .before .before .before .before .before .before .before .before .counted-completion .ensures, ← c .before .before .before .before .before .before .before .stamped .ensures, ← c .before .before .before .before .before .put .ensures, ← c .before .before .before .without-tx1m .ensures, ← c .raised .ensures)
+returns c =
+    rw (
+      ← c .before .before .before .before .before .before .before .before .before .before .before .fifo-after .ensures,
+      ← c .before .before .before .before .before .before .before .before .before .counted-completion .ensures,
+      ← c .before .before .before .before .before .before .before .stamped .ensures,
+      ← c .before .before .before .before .before .put .ensures,
+      ← c .before .before .before .without-tx1m .ensures,
+      ← c .raised .ensures,
+    )
 
 pub sent-spec : {M : Type 1} → statement M
 sent-spec =
