@@ -79,7 +79,7 @@ completed d =
 unfoldable pub recessiveMet : Device → Device
 recessiveMet d = with-counters d (elevenRecessive (d .counters) (bor d))
 
--- "Each tick, already divided, moves the time tag one step in every mode, from 65535 to 0."
+-- "Each tick, already divided, moves the time tag one step in every mode …, from 65535 to 0."
 unfoldable pub ticked : Device → ℕ → Device
 ticked d count = with-time d ((d .time + count) % 65536)
 
