@@ -1,5 +1,5 @@
 -- What an event that isn't refused changes (01, Bus events, and Modes and filters).
-use mathlib.Core.Bool.{Bool}
+use mathlib.Core.Bool.{Bool, true, false}
 use mathlib.Core.List.{List}
 use Prim.Native.Nat.{ℕ, _+_, _%_}
 use lib.Dec.{eqb}
@@ -41,14 +41,18 @@ countedFrame c acting = pick (eqb acting normal) (goodFrame c) c
 unfoldable pub heard : Device → Header → List ℕ → Device
 heard d h bytes = with-counters (arrived d h bytes) (countedFrame (d .counters) (d .acting))
 
--- "A1 to A3 leave the temporary buffer alone. A4, A5 and Queued put the frame there." A frame in sleep wakes the device if WAKEUP is set.
+-- "A1 to A3 leave the temporary buffer alone. A4, A5 and Queued put the frame there."
+unfoldable pub reachesBuffer : Arrival → Bool
+reachesBuffer Queued = true
+reachesBuffer A1 = false
+reachesBuffer A2 = false
+reachesBuffer A3 = false
+reachesBuffer A4 = true
+reachesBuffer A5 = true
+
+-- "With WAKEUP set, a bus activity event or a good frame in sleep brings monitor mode": a frame that isn't taken is activity
 unfoldable pub frameAfter : Device → Header → List ℕ → Arrival → Device
-frameAfter d h bytes Queued = heard d h bytes
-frameAfter d h bytes A1 = busActivity d
-frameAfter d h bytes A2 = d
-frameAfter d h bytes A3 = d
-frameAfter d h bytes A4 = heard d h bytes
-frameAfter d h bytes A5 = heard d h bytes
+frameAfter d h bytes what = pick (reachesBuffer what) (heard d h bytes) (busActivity d)
 
 -- "Monitor mode moves neither."
 unfoldable pub countedReceiveError : Counters → ℕ → Counters

@@ -1,7 +1,7 @@
 // What an event that isn't refused changes.
 ghost use mathlib.Core.Path.{_≡_};
 ghost use Prim.Native.Nat.{_+_, _%_};
-ghost use Rattle.changed.specs.Changed.{errBit, countedFrame, heard, frameAfter, countedReceiveError, errorReceived};
+ghost use Rattle.changed.specs.Changed.{errBit, countedFrame, heard, reachesBuffer, frameAfter, countedReceiveError, errorReceived};
 ghost use Rattle.changed.specs.Changed.{dominantMet, countedTransmitError, errorSent, completed, recessiveMet, ticked, pinSet, after};
 use chip::Device;
 use chip::LOOPBACK;
@@ -47,17 +47,28 @@ fn heard(d: Device, h: Header, payload: [u8; 8]) -> Device
     e
 }
 
-// A good frame, by what became of it: one that a sleeping device meets can wake it.
+// Whether a good frame reaches the temporary buffer.
+fn reaches_buffer(what: Arrival) -> bool
+    ensures { λ r. ⌜ r ≡ reachesBuffer what ⌝ }
+{
+    match what {
+        Arrival::Queued => true,
+        Arrival::A1 => false,
+        Arrival::A2 => false,
+        Arrival::A3 => false,
+        Arrival::A4 => true,
+        Arrival::A5 => true,
+    }
+}
+
+// A good frame, by what became of it. One that isn't taken is still activity on the bus, and wakes a sleeping device.
 fn frame_after(d: Device, h: Header, payload: [u8; 8], what: Arrival) -> Device
     ensures { λ r. ⌜ r ≡ frameAfter d h payload what ⌝ }
 {
-    match what {
-        Arrival::Queued => heard(d, h, payload),
-        Arrival::A1 => modes::bus_activity(d),
-        Arrival::A2 => d,
-        Arrival::A3 => d,
-        Arrival::A4 => heard(d, h, payload),
-        Arrival::A5 => heard(d, h, payload),
+    if reaches_buffer(what) {
+        heard(d, h, payload)
+    } else {
+        modes::bus_activity(d)
     }
 }
 
@@ -129,7 +140,7 @@ fn completed(d: Device) -> Device
         let m = d.buffer;
         let bytes = m.bytes;
         let h = frame::header_in(bytes);
-        let payload = judged::data_in(m);
+        let payload = frame::data_in(bytes);
         let e = receive::arrived(d, h, payload);
         transmit::sent(e)
     } else {

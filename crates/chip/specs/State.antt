@@ -92,9 +92,6 @@ txen d = isSet 7 (d .regs .ctrl1)
 abbrev pub tx1m : Device → Bool
 tx1m d = isSet 6 (d .regs .ctrl1)
 
-abbrev pub osm : Device → Bool
-osm d = isSet 5 (d .regs .ctrl1)
-
 abbrev pub filton : Device → Bool
 filton d = isSet 4 (d .regs .ctrl1)
 

@@ -6,7 +6,7 @@ ghost use lib.ListN.{length};
 ghost use Rattle.base.specs.Bit.{bits};
 ghost use Rattle.frame.specs.Length.{dataLength, dataBytes, possible, dataFits, dataOf};
 ghost use Rattle.frame.specs.Tables.{idBits, idToSend, readId, compared, idFrom};
-ghost use Rattle.frame.specs.Received.{received, headerIn};
+ghost use Rattle.frame.specs.Received.{received, headerIn, dataIn};
 
 pub mod sent;
 
@@ -250,4 +250,11 @@ pub fn header_in(m: [u8; 16]) -> Header
             code,
         }
     }
+}
+
+// The eight data bytes read back from a message's bytes.
+pub fn data_in(m: [u8; 16]) -> [u8; 8]
+    ensures { λ r. ⌜ r ≡ dataIn m ⌝ }
+{
+    [m[8], m[9], m[10], m[11], m[12], m[13], m[14], m[15]]
 }

@@ -2,7 +2,6 @@
 ghost use mathlib.Core.Path.{_≡_};
 ghost use Rattle.judged.specs.Judged.{quietMode, noErrors, runs, impossibleFrame, impossible};
 ghost use Rattle.judged.specs.Judged.{takesNoFrames, unacknowledged, reason, echo, said};
-ghost use Rattle.frame.specs.Received.{dataIn};
 use chip::Device;
 use chip::IDLE;
 use chip::INITIALIZATION;
@@ -10,7 +9,6 @@ use chip::LOOPBACK;
 use chip::MONITOR;
 use chip::SLEEP;
 use events::Event;
-use fifo::Message;
 use frame::Header;
 use receive::Arrival;
 
@@ -119,14 +117,6 @@ pub fn reason(d: Device, h: Header, acknowledged: bool, payload: [u8; 8]) -> Arr
     what
 }
 
-// A message's eight data bytes.
-pub fn data_in(m: Message) -> [u8; 8]
-    ensures { λ r. ⌜ r ≡ dataIn (m .bytes) ⌝ }
-{
-    let b = m.bytes;
-    [b[8], b[9], b[10], b[11], b[12], b[13], b[14], b[15]]
-}
-
 // What a completion says: in loopback the own message comes back.
 fn echo(d: Device) -> Answer
     ensures { λ r. ⌜ r ≡ echo d ⌝ }
@@ -136,7 +126,7 @@ fn echo(d: Device) -> Answer
         let m = d.buffer;
         let bytes = m.bytes;
         let h = frame::header_in(bytes);
-        let payload = data_in(m);
+        let payload = frame::data_in(bytes);
         Answer::Arrived(receive::reason(d, h, payload))
     } else {
         Answer::Done

@@ -22,8 +22,8 @@ use Rattle.refused.specs.declared.Verdict.the-variants.{Refused, Accepte
 -- 3: "its length is not the command's": the command byte and what the row says comes after it; 0x12 by its message
 unfoldable pub lengthFits : Row → List ℕ → Bool
 lengthFits r bytes =
-    not (ltb (length bytes) (r .least + 1)) &&
-    (not (ltb (r .most + 1) (length bytes)) && pick (eqb (r .verb) writeMessage) (rightLength (drop 1 bytes)) true)
+    leb (r .least + 1) (length bytes) &&
+    (leb (length bytes) (r .most + 1) && pick (eqb (r .verb) writeMessage) (rightLength (drop 1 bytes)) true)
 
 -- 5: "a filter, mask or bit-timing write outside initialization mode"
 unfoldable pub setsUp : ℕ → Bool

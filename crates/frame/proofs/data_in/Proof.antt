@@ -1,10 +1,10 @@
--- `judged::data_in` meets its contract. Assumes nothing.
+-- `frame::data_in` meets its contract. Assumes nothing.
 use mathlib.Core.Path.{_≡_}
 use lib.ListN.{length}
 use Rattle.base.proofs.Lists.{listed}
 use borrow.Author.Needs.{needs}
-use Rattle.judged.proofs.data_in.Statement.{statement}
-use Rattle.judged.proofs.data_in.Tie as tie
+use Rattle.frame.proofs.data_in.Statement.{statement}
+use Rattle.frame.proofs.data_in.Tie as tie
 
 array-read-t5 : tie.Need-array-read-t5
 array-read-t5 c = search needs
@@ -32,9 +32,8 @@ array-read-t26 c = search needs
 
 returns : tie.Need-returns
 returns c =
-    let b = c .before .args .m .bytes in
-    let sixteen : length b ≡ 16 = search needs in
-    rw (listed 0 b, sixteen)
+    let sixteen : length (c .args .t1) ≡ 16 = search needs in
+    rw (listed 0 (c .args .t1), sixteen)
 
 pub data-in-spec : {M : Type 1} → statement M
 data-in-spec =
