@@ -3,18 +3,17 @@ use mathlib.Core.Path.{_≡_, refl}
 use mathlib.Core.Bool.{Bool, true, false, not, _&&_, _||_}
 use mathlib.Core.List.{List, [], _∷_}
 use mathlib.Core.Logic.{_⊎_, inl, inr, ⊎-elim}
-use Prim.Native.Nat.{ℕ, _<_, _≤_, _+_}
-use native.Mathlib.Numerals.{add-one}
-use borrow.Author.Tests.{eq-eqb, ne-eqb, leb-true}
+use Prim.Native.Nat.{ℕ, suc, _<_, _≤_}
+use native.Mathlib.Nat.{le-of-suc-le-suc, not-suc-le-zero}
+use borrow.Author.Tests.{leb-true}
 use lib.Dec.{eqb, leb}
-use lib.ListN.{length, drop, getD}
-use lib.Seq.{drop-cons}
+use lib.ListN.{length, getD}
 use Rattle.base.specs.Pick.{pick}
 use Rattle.base.proofs.Booleans.{and-left, and-right}
 use Rattle.commands.specs.declared.Found.{Found}
-use Rattle.commands.specs.declared.Found.the-variants.{At}
+use Rattle.commands.specs.declared.Found.the-variants.{At, Nothing}
 use Rattle.commands.specs.declared.Row.{Row}
-use Rattle.commands.specs.Table.{rows, noRow, lookup}
+use Rattle.commands.specs.Table.{rows, noRow, lookup, placeIn}
 
 -- a rule of every row
 abbrev pub all : (Row → Bool) → List Row → Bool
@@ -60,9 +59,21 @@ out-le c r e =
     leb-true (r .out) 16
     (and-left (leb (r .out) 16) _ (lookup-all sound rows c r e (and-left (all sound rows) (distinct rows) table-rule)))
 
-module _ (rs : List Row) (c i : ℕ) (r : Row) (h : i < length rs) (is : r ≡ getD rs i noRow) where
-  pub lookup-here : r .command ≡ c → At r ≡ lookup (drop i rs) c
-  lookup-here e = rw (drop-cons rs i noRow h, ← is, eq-eqb (r .command) c e)
+here : (t : Bool) (r : Row) (p : ℕ) (rs : List Row) (f : Found) → pick t 0 (suc p) < suc (length rs)
+    → (p < length rs → At (getD rs p noRow) ≡ f) → At (getD (r ∷ rs) (pick t 0 (suc p)) noRow) ≡ pick t (At r) f
+here true r p rs f h on = refl
+here false r p rs f h on = on (le-of-suc-le-suc h)
 
-  pub lookup-on : (r .command ≡ c → ⊥) → lookup (drop (i + 1) rs) c ≡ lookup (drop i rs) c
-  lookup-on e = rw (add-one i, drop-cons rs i noRow h, ← is, ne-eqb (r .command) c e)
+-- the row at a command's place is the one that a search finds
+pub at-place : (rs : List Row) (c : ℕ) → placeIn rs c < length rs → At (getD rs (placeIn rs c) noRow) ≡ lookup rs c
+at-place [] c h = absurd (not-suc-le-zero h)
+at-place (r ∷ rs) c h = here (eqb (r .command) c) r (placeIn rs c) rs (lookup rs c) h (at-place rs c)
+
+nowhere : (t : Bool) (r : Row) (p n : ℕ) (f : Found) → suc n ≤ pick t 0 (suc p) → (n ≤ p → Nothing ≡ f) → Nothing ≡ pick t (At r) f
+nowhere true r p n f h on = absurd (not-suc-le-zero h)
+nowhere false r p n f h on = on (le-of-suc-le-suc h)
+
+-- and where the place is past the last row, a search finds none
+pub no-place : (rs : List Row) (c : ℕ) → length rs ≤ placeIn rs c → Nothing ≡ lookup rs c
+no-place [] c h = refl
+no-place (r ∷ rs) c h = nowhere (eqb (r .command) c) r (placeIn rs c) (length rs) (lookup rs c) h (no-place rs c)

@@ -1,6 +1,6 @@
 -- The commands, in the order of 000's Table 1 (01, Transfers: "one constant table: command, bytes in, bytes out").
 use mathlib.Core.List.{List, [], _∷_}
-use Prim.Native.Nat.{ℕ}
+use Prim.Native.Nat.{ℕ, suc}
 use lib.Dec.{eqb}
 use Rattle.base.specs.Pick.{pick}
 use Rattle.commands.specs.declared.Found.{Found}
@@ -115,3 +115,8 @@ rows =
 abbrev pub lookup : List Row → ℕ → Found
 lookup [] c = Nothing
 lookup (r ∷ rs) c = pick (eqb (r .command) c) (At r) (lookup rs c)
+
+-- the place of that row, past the last if there is none
+abbrev pub placeIn : List Row → ℕ → ℕ
+placeIn [] c = 0
+placeIn (r ∷ rs) c = pick (eqb (r .command) c) 0 (suc (placeIn rs c))

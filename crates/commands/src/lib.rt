@@ -3,7 +3,7 @@
 ghost use mathlib.Core.Path.{_≡_};
 ghost use Prim.Native.Nat.{_<_};
 ghost use lib.ListN.{getD};
-ghost use Rattle.commands.specs.Table.{rows, noRow, lookup};
+ghost use Rattle.commands.specs.Table.{rows, noRow, lookup, placeIn};
 
 mod table;
 pub mod verb;
@@ -32,17 +32,23 @@ fn at(i: usize) -> Row
     table::ROWS[i]
 }
 
+// The place of the command's row. It is looked up and not searched for: a search costs many times what a transfer does.
+fn place(command: u8) -> u8
+    ensures { λ r. ⌜ r ≡ placeIn rows command ⌝ }
+{
+    let line = (command / 8) as usize;
+    let column = (command % 8) as usize;
+    table::PLACES[line][column]
+}
+
 // The command's row.
 pub fn find(command: u8) -> Found
     ensures { λ r. ⌜ r ≡ lookup rows command ⌝ }
 {
-    let mut i: usize = 0;
-    while i < 69 {
-        let row = at(i);
-        if row.command == command {
-            return Found::At(row);
-        }
-        i += 1;
+    let i = place(command) as usize;
+    if i < 69 {
+        Found::At(at(i))
+    } else {
+        Found::Nothing
     }
-    Found::Nothing
 }

@@ -1,4 +1,5 @@
-// A line that is being read. Its bytes stand at the front of a buffer; from `#` on they are passed over and never count.
+// A line that is being read. Its bytes stand at the front of a buffer, from the first that is no blank on; from `#` on they are
+// passed over and never count.
 ghost use Prim.Native.Nat.{_<_, _≤_};
 ghost use lib.ListN.{length};
 
@@ -21,6 +22,19 @@ pub struct Step {
     pub ended: bool,
 }
 
+fn is_blank(b: u8) -> bool {
+    match b {
+        b' ' => true,
+        b'\t' => true,
+        b'\r' => true,
+        _ => false,
+    }
+}
+
+fn leads(length: usize, b: u8) -> bool {
+    if length == 0 { is_blank(b) } else { false }
+}
+
 // One byte more.
 fn hold(h: Held, b: u8, line: &mut [u8]) -> Held {
     let commented = h.commented;
@@ -32,6 +46,8 @@ fn hold(h: Held, b: u8, line: &mut [u8]) -> Held {
             length,
             commented: true,
         }
+    } else if leads(length, b) {
+        h
     } else if length < line.len() {
         line[length] = b;
         Held {

@@ -33,9 +33,13 @@ unfoldable pub passed : Device → Hit → Arrival
 passed d (Filter k) = room d
 passed d Nothing = A4
 
--- the reason for a frame that the mode takes: the filters first, then the room
+-- the filters first, then the room
+unfoldable pub answered : Device → Hit → Arrival
+answered d found = pick (filton d) (passed d found) (room d)
+
+-- the reason for a frame that the mode takes
 unfoldable pub reason : Device → Header → List ℕ → Arrival
-reason d h bytes = pick (filton d) (passed d (hit d h bytes)) (room d)
+reason d h bytes = answered d (hit d h bytes)
 
 unfoldable pub isQueued : Arrival → Bool
 isQueued Queued = true

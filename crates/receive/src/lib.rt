@@ -1,7 +1,7 @@
 // A frame that the mode takes: the filters, the room, and what an arrival changes.
 ghost use mathlib.Core.Path.{_≡_};
 ghost use Rattle.chip.specs.State.{filton};
-ghost use Rattle.receive.specs.Receive.{hit, room, passed, reason, isQueued, queuedFlag, filterFlag, queueAfter, arrived};
+ghost use Rattle.receive.specs.Receive.{hit, room, passed, answered, reason, isQueued, queuedFlag, filterFlag, queueAfter, arrived};
 use chip::Device;
 use fifo::Fifo;
 use fifo::Message;
@@ -65,16 +65,18 @@ fn passed(d: Device, found: Hit) -> Arrival
     }
 }
 
-// What the filters and the room say of a frame.
+// What the filters' match and the room say of a frame.
+fn answered(d: Device, found: Hit) -> Arrival
+    ensures { λ r. ⌜ r ≡ answered d found ⌝ }
+{
+    if filton(d) { passed(d, found) } else { room(d) }
+}
+
+// What becomes of a frame that the mode takes.
 pub fn reason(d: Device, h: Header, payload: [u8; 8]) -> Arrival
     ensures { λ r. ⌜ r ≡ reason d h payload ⌝ }
 {
-    if filton(d) {
-        let found = hit(d, h, payload);
-        passed(d, found)
-    } else {
-        room(d)
-    }
+    answered(d, hit(d, h, payload))
 }
 
 fn is_queued(a: Arrival) -> bool
@@ -124,7 +126,7 @@ pub fn arrived(d: Device, h: Header, payload: [u8; 8]) -> Device
     ensures { λ r. ⌜ r ≡ arrived d h payload ⌝ }
 {
     let found = hit(d, h, payload);
-    let queued = is_queued(reason(d, h, payload));
+    let queued = is_queued(answered(d, found));
     let filhit = filter::filhit(found);
     let bytes = frame::received(h, payload, d.time, filhit);
     let m = Message { bytes };

@@ -1,46 +1,27 @@
--- `commands::find` meets its contract. The loop's invariant: the rows that are left have the answer. Assumes nothing.
-use mathlib.Core.Path.{_≡_, refl, _∙_}
-use Prim.Native.Nat.{_≤_, _-_}
+-- `commands::find` meets its contract: the row stands at its place. Assumes nothing.
 use native.Mathlib.Omega.{arith}
 use borrow.Author.Needs.{needs}
-use lib.ListN.{drop, drop-of-length-le}
-use Rattle.commands.specs.Table.{rows, lookup}
-use Rattle.commands.proofs.Rows.{rows-length, lookup-here, lookup-on}
+use Rattle.commands.specs.Table.{rows}
+use Rattle.commands.proofs.Rows.{rows-length, at-place, no-place}
 use Rattle.commands.proofs.find.Statement.{statement}
 use Rattle.commands.proofs.find.Tie as tie
 
-abbrev Inv-loop : tie.InvT-loop
-Inv-loop command i₀ i = (i ≤ 69) × (lookup (drop i rows) command ≡ lookup rows command)
+place-requires : tie.Need-place-requires
+place-requires c κs = search needs
 
-abbrev μ-loop : tie.MeasureT-loop
-μ-loop command i₀ i = 69 - i
+cast-i : tie.Need-cast-i
+cast-i c = search needs
 
-loop-holds : tie.Need-loop-holds Inv-loop μ-loop
-loop-holds c = (omega arith, refl)
-
-at-requires : tie.Need-at-requires Inv-loop μ-loop
+at-requires : tie.Need-at-requires
 at-requires c κs = search needs
 
-returns : tie.Need-returns Inv-loop μ-loop
+returns : tie.Need-returns
 returns c =
-    let l = c .before .before .before .before .loop in
-    lookup-here rows _ (l .i) _ (omega (arith, rows-length)) (c .before .before .at .ensures) (c .if1 .taken) ∙ l .inv .1
+    let place = c .before .before .place .ensures in
+    rw (c .at .ensures, place) (at-place rows (c .before .before .before .args .command) (omega (arith, rows-length, place, c .before .if1 .taken)))
 
-add-i : tie.Need-add-i Inv-loop μ-loop
-add-i c = search needs
-
-loop-less : tie.Need-loop-less Inv-loop μ-loop
-loop-less c = search needs
-
-loop-again : tie.Need-loop-again Inv-loop μ-loop
-loop-again c =
-    let l = c .before .before .before .before .loop in
-    (omega arith, lookup-on rows _ (l .i) _ (omega (arith, rows-length)) (c .before .before .at .ensures) (c .if1 .left) ∙ l .inv .1)
-
-returns-2 : tie.Need-returns-2 Inv-loop μ-loop
-returns-2 c = rw (drop-of-length-le rows {i = c .before .loop .i} (omega (arith, rows-length))) at (c .before .loop .inv .1)
+returns-2 : tie.Need-returns-2
+returns-2 c = no-place rows (c .before .before .args .command) (omega (arith, rows-length, c .before .place .ensures, c .if1 .left))
 
 pub find-spec : {M : Type 1} → statement M
-find-spec =
-    tie.close
-    (tie.spec Inv-loop μ-loop loop-holds at-requires returns add-i loop-less loop-again returns-2)
+find-spec = tie.close (tie.spec place-requires cast-i at-requires returns returns-2)

@@ -1,5 +1,5 @@
 -- `receive::arrived` meets its contract. Assumes nothing.
-use Rattle.receive.specs.Receive.{arrived}
+use Rattle.receive.specs.Receive.{arrived, reason}
 use borrow.Author.Needs.{needs}
 use Rattle.receive.proofs.arrived.Statement.{statement}
 use Rattle.receive.proofs.arrived.Tie as tie
@@ -7,8 +7,8 @@ use Rattle.receive.proofs.arrived.Tie as tie
 hit-requires : tie.Need-hit-requires
 hit-requires c κs = search needs
 
-reason-requires : tie.Need-reason-requires
-reason-requires c κs = search needs
+answered-requires : tie.Need-answered-requires
+answered-requires c κs = search needs
 
 is-queued-requires : tie.Need-is-queued-requires
 is-queued-requires c κs = search needs
@@ -38,7 +38,7 @@ raised-requires-3 : tie.Need-raised-requires-3
 raised-requires-3 c κs = search needs
 
 returns : tie.Need-returns
-unfolding arrived
+unfolding arrived reason
 returns c =
     rw (
       c .raised3 .ensures,
@@ -50,7 +50,7 @@ returns c =
       c .before .before .before .before .before .before .before .before .received .ensures,
       c .before .before .before .before .before .before .before .before .before .filhit .ensures,
       c .before .before .before .before .before .before .before .before .before .before .is-queued .ensures,
-      c .before .before .before .before .before .before .before .before .before .before .before .reason .ensures,
+      c .before .before .before .before .before .before .before .before .before .before .before .answered .ensures,
       c .before .before .before .before .before .before .before .before .before .before .before .before .hit .ensures,
     )
 
@@ -59,7 +59,7 @@ arrived-spec =
     tie.close
     (tie.spec
     hit-requires
-    reason-requires
+    answered-requires
     is-queued-requires
     filhit-requires
     received-requires

@@ -1,37 +1,18 @@
 -- `receive::reason` meets its contract. Assumes nothing.
 use Rattle.receive.specs.Receive.{reason}
-use Rattle.base.specs.Pick.{picks, judges}
 use borrow.Author.Needs.{needs}
 use Rattle.receive.proofs.reason.Statement.{statement}
 use Rattle.receive.proofs.reason.Tie as tie
 
-filton-requires : tie.Need-filton-requires
-filton-requires c κs = search needs
-
 hit-requires : tie.Need-hit-requires
 hit-requires c κs = search needs
 
-passed-requires : tie.Need-passed-requires
-passed-requires c κs = search needs
-
-room-requires : tie.Need-room-requires
-room-requires c κs = search needs
+answered-requires : tie.Need-answered-requires
+answered-requires c κs = search needs
 
 returns : tie.Need-returns
 unfolding reason
-returns c =
-    rw (
-      ← c .before .before .before .filton .ensures,
-      ← c .before .hit .ensures,
-      ← c .passed .ensures,
-    )
-    (search (picks, judges, c .before .before .if1 .taken))
-
-returns-2 : tie.Need-returns-2
-unfolding reason
-returns-2 c = rw (← c .before .before .filton .ensures, ← c .room .ensures) (search (picks, judges, c .before .if1 .left))
+returns c = rw (c .answered .ensures, c .before .hit .ensures)
 
 pub reason-spec : {M : Type 1} → statement M
-reason-spec =
-    tie.close
-    (tie.spec filton-requires hit-requires passed-requires room-requires returns returns-2)
+reason-spec = tie.close (tie.spec hit-requires answered-requires returns)

@@ -1,0 +1,28 @@
+-- `receive::answered` meets its contract. Assumes nothing.
+use Rattle.receive.specs.Receive.{answered}
+use Rattle.base.specs.Pick.{picks, judges}
+use borrow.Author.Needs.{needs}
+use Rattle.receive.proofs.answered.Statement.{statement}
+use Rattle.receive.proofs.answered.Tie as tie
+
+filton-requires : tie.Need-filton-requires
+filton-requires c κs = search needs
+
+passed-requires : tie.Need-passed-requires
+passed-requires c κs = search needs
+
+room-requires : tie.Need-room-requires
+room-requires c κs = search needs
+
+returns : tie.Need-returns
+unfolding answered
+returns c = rw (← c .before .before .filton .ensures, ← c .passed .ensures) (search (picks, judges, c .before .if1 .taken))
+
+returns-2 : tie.Need-returns-2
+unfolding answered
+returns-2 c = rw (← c .before .before .filton .ensures, ← c .room .ensures) (search (picks, judges, c .before .if1 .left))
+
+pub answered-spec : {M : Type 1} → statement M
+answered-spec =
+    tie.close
+    (tie.spec filton-requires passed-requires room-requires returns returns-2)

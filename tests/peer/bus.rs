@@ -1,0 +1,250 @@
+//! The bus's side: events, the error counters and the way of a received frame.
+
+use crate::device::*;
+use crate::frame::{data_bytes, Frame, Received};
+
+/// A good frame as the bus tells it, possible or not.
+pub struct GoodFrame {
+    pub identifier: u32,
+    pub extended: bool,
+    pub remote: bool,
+    pub length_code: u32,
+    pub acknowledged: bool,
+    pub data: Vec<u8>,
+}
+
+/// A kind of error is given as its bit in ERR.
+pub enum Event {
+    GoodFrame(GoodFrame),
+    ReceiveError(u8),
+    TransmitError { kind: u8, counted: bool },
+    DominantAfterFlag,
+    Begun,
+    Completed,
+    ArbitrationLost,
+    ElevenRecessive,
+    Quiet,
+    Activity,
+    Ticks(u16),
+    TxenPin(bool),
+    MrPin,
+}
+
+/// What became of a frame.
+pub type Fate = &'static str;
+
+/// Number 8.
+pub struct Impossible;
+
+/// Bit 0 of byte 4 has no name in Table 4b.
+const COUNTED: [u8; 6] = [0xFF, 0xFF, 0xFF, 0xFE, 0xFF, 0xFF];
+
+impl GoodFrame {
+    fn possible(self) -> Result<Frame, Impossible> {
+        let bits = if self.extended { 29 } else { 11 };
+        if self.identifier >> bits != 0 || self.length_code > 15 {
+            return Err(Impossible);
+        }
+        let length_code = self.length_code as u8;
+        if self.data.len() != data_bytes(length_code, self.remote) {
+            return Err(Impossible);
+        }
+        Ok(Frame {
+            identifier: self.identifier,
+            extended: self.extended,
+            remote: self.remote,
+            length_code,
+            data: self.data,
+        })
+    }
+}
+
+impl Device {
+    pub fn event(&mut self, event: Event) -> Result<Option<Fate>, Impossible> {
+        match event {
+            Event::GoodFrame(told) => {
+                let acknowledged = told.acknowledged;
+                let frame = told.possible()?;
+                return Ok(Some(self.good_frame(frame, acknowledged)));
+            }
+            Event::ReceiveError(kind) => {
+                self.errors_possible()?;
+                self.note_error(kind);
+                self.raise_rec(1);
+            }
+            Event::TransmitError { kind, counted } => self.transmit_error(kind, counted)?,
+            Event::DominantAfterFlag => {
+                self.errors_possible()?;
+                self.raise_rec(8);
+            }
+            Event::Begun => self.begin()?,
+            Event::Completed => return self.complete(),
+            Event::ArbitrationLost => {
+                self.running.as_ref().ok_or(Impossible)?;
+                self.stop_running();
+            }
+            Event::ElevenRecessive => self.eleven_recessive(),
+            Event::Quiet => {
+                let waits = Mode::named_by(self.ctrl0) == Mode::Sleep;
+                let idle = self.running.is_none() && self.transmit_fifo.is_empty();
+                if waits && self.acting != Mode::Sleep && idle {
+                    self.change_mode(Mode::Sleep);
+                }
+            }
+            Event::Activity => self.wake_up(),
+            Event::Ticks(count) => self.time_tag = self.time_tag.wrapping_add(count),
+            Event::TxenPin(level) => self.txen_pin = level,
+            Event::MrPin => self.master_reset(),
+        }
+        Ok(None)
+    }
+
+    fn good_frame(&mut self, frame: Frame, acknowledged: bool) -> Fate {
+        match self.acting {
+            Mode::Sleep => {
+                // The frame that wakes is itself lost.
+                self.wake_up();
+                return "A1";
+            }
+            Mode::Initialization | Mode::Loopback => return "A1",
+            _ => {}
+        }
+        if self.bus_off {
+            return "A2";
+        }
+        if self.acting == Mode::Monitor && !acknowledged {
+            return "A3";
+        }
+        if self.acting == Mode::Normal {
+            self.rec = match self.rec {
+                0 => 0,
+                1..=127 => self.rec - 1,
+                _ => 119,
+            };
+        }
+        self.receive(frame)
+    }
+
+    fn wake_up(&mut self) {
+        if self.acting == Mode::Sleep && self.ctrl0 & CTRL0_WAKEUP != 0 {
+            self.ctrl0 = self.ctrl0 & 0x1F | 0x40;
+            self.intf |= INTF_WAKEUP;
+            self.change_mode(Mode::Monitor);
+        }
+    }
+
+    /// From the temporary buffer through the filters into the FIFO.
+    fn receive(&mut self, frame: Frame) -> Fate {
+        let filtering = self.ctrl1 & CTRL1_FILTON != 0;
+        let hit = if filtering {
+            self.lowest_match(&frame)
+        } else {
+            None
+        };
+        let received = Received {
+            frame,
+            time_tag: self.time_tag,
+            filter: hit,
+        };
+        self.temporary = Some(received.clone());
+        self.intf |= INTF_RXTMP;
+        self.filhit = hit.map_or(0, |n| 8 | n);
+        match hit {
+            Some(0) => self.intf |= INTF_F0MESS,
+            Some(1) => self.intf |= INTF_F1MESS,
+            None if filtering => return "A4",
+            _ => {}
+        }
+        if self.receive_fifo.len() == ROOM {
+            return "A5";
+        }
+        self.receive_fifo.push_back(received);
+        self.intf |= INTF_RXFIFO;
+        "Queued"
+    }
+
+    fn lowest_match(&self, frame: &Frame) -> Option<u8> {
+        let seen = frame.filter_bytes();
+        let matches = |&n: &u8| {
+            let (filter, mask) = (self.filters[usize::from(n)], self.masks[usize::from(n)]);
+            (0..6).all(|i| (seen[i] ^ filter[i]) & mask[i] & COUNTED[i] == 0)
+        };
+        (0..8).find(matches)
+    }
+
+    fn errors_possible(&self) -> Result<(), Impossible> {
+        match self.acting {
+            Mode::Initialization | Mode::Sleep => Err(Impossible),
+            _ if self.bus_off => Err(Impossible),
+            _ => Ok(()),
+        }
+    }
+
+    fn note_error(&mut self, kind: u8) {
+        self.err |= kind;
+        self.intf |= INTF_BUSERR;
+    }
+
+    fn raise_rec(&mut self, step: u8) {
+        if self.acting != Mode::Monitor {
+            self.rec = self.rec.saturating_add(step);
+        }
+    }
+
+    /// One runs in normal and loopback mode only, and not in bus off: nothing else is to check.
+    fn transmit_error(&mut self, kind: u8, counted: bool) -> Result<(), Impossible> {
+        self.running.as_ref().ok_or(Impossible)?;
+        self.note_error(kind);
+        self.stop_running();
+        if counted {
+            let raised = self.tec.checked_add(8);
+            self.bus_off = raised.is_none();
+            self.tec = raised.unwrap_or(255);
+        }
+        Ok(())
+    }
+
+    fn begin(&mut self) -> Result<(), Impossible> {
+        let can_send = matches!(self.acting, Mode::Normal | Mode::Loopback) && !self.bus_off;
+        if self.running.is_some() || !can_send || !self.enabled() {
+            return Err(Impossible);
+        }
+        let message = self.transmit_fifo.pop_front().ok_or(Impossible)?;
+        self.running = Some(Running {
+            message,
+            has_place: true,
+        });
+        if self.ctrl1 & CTRL1_OSM != 0 {
+            self.ctrl1 &= !CTRL1_TX1M;
+        }
+        Ok(())
+    }
+
+    fn complete(&mut self) -> Result<Option<Fate>, Impossible> {
+        let message = self.running.take().ok_or(Impossible)?.message;
+        if self.history.len() < ROOM {
+            self.history.push_back((message.tag, self.time_tag));
+        }
+        self.mtag = message.tag & 0b11;
+        self.tec = self.tec.saturating_sub(1);
+        self.ctrl1 &= !CTRL1_TX1M;
+        self.intf |= INTF_TXCPLT;
+        if self.acting == Mode::Loopback {
+            return Ok(Some(self.receive(message.frame)));
+        }
+        Ok(None)
+    }
+
+    fn eleven_recessive(&mut self) {
+        if !self.bus_off {
+            return;
+        }
+        self.groups = RECOVERY_GROUPS.min(self.groups + 1);
+        if self.groups == RECOVERY_GROUPS && self.ctrl0 & CTRL0_BOR != 0 {
+            self.bus_off = false;
+            self.groups = 0;
+            self.rec = 0;
+            self.tec = 0;
+        }
+    }
+}

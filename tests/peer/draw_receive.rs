@@ -1,0 +1,187 @@
+//! Scenes of the receiving side: frames, filters and masks.
+
+use crate::commands::{Job, TABLE_1};
+use crate::device::{Mode, CTRL1_FILTON};
+use crate::draw::{Drawer, FIFO_READS};
+use crate::frame::{data_bytes, Frame};
+
+impl Drawer {
+    pub fn any_frame(&mut self) -> Frame {
+        let extended = self.random.chance(45);
+        let bits = if extended { 29 } else { 11 };
+        let identifier = match self.random.below(5) {
+            0 => 1 << self.random.below(bits),
+            1 => self.random.pick(&[0, (1 << bits) - 1]),
+            _ => self.random.bits() as u32 & ((1 << bits) - 1),
+        };
+        let mut frame = Frame {
+            identifier,
+            extended,
+            remote: self.random.chance(20),
+            length_code: self.random.below(16) as u8,
+            data: Vec::new(),
+        };
+        let length = data_bytes(frame.length_code, frame.remote);
+        frame.data = (0..length).map(|_| self.random.edge_byte()).collect();
+        frame
+    }
+
+    pub fn say_frame(&mut self, frame: &Frame) {
+        let acknowledged = self.random.chance(75);
+        let data: String = frame.data.iter().map(|b| format!(" {:02X}", b)).collect();
+        self.say(&format!(
+            "frame {:X} {} {} {} {}{}",
+            frame.identifier,
+            if frame.extended { "ext" } else { "std" },
+            if frame.remote { "remote" } else { "data" },
+            frame.length_code,
+            if acknowledged { "ack" } else { "noack" },
+            data
+        ));
+    }
+
+    pub fn arrivals(&mut self) {
+        let count = self.random.pick(&[1, 1, 2, 3, 9, 10]);
+        for _ in 0..count {
+            let frame = self.any_frame();
+            self.say_frame(&frame);
+            if self.random.chance(30) {
+                self.peek();
+            }
+        }
+    }
+
+    /// A weak mask lets nearly everything pass and hides the filters after it.
+    fn any_mask(&mut self, weak: bool) -> [u8; 6] {
+        let bit = self.random.below(48);
+        let mut mask = match self.random.below(8) {
+            _ if weak => [0; 6],
+            0..=2 => [0xFF; 6],
+            3 => [0xFF, 0xF8, 0, 0, 0, 0],
+            4 => [0xFF, 0xFF, 0xFF, 0xFF, 0, 0],
+            _ => [0; 6].map(|_: u8| self.random.byte()),
+        };
+        mask[bit / 8] ^= 0x80 >> (bit % 8);
+        mask
+    }
+
+    pub fn set_filters(&mut self) {
+        if self.device().acting != Mode::Initialization && self.random.chance(95) {
+            let mode = self.random.pick(&[0x80, 0x80, 0xA0, 0xE0]);
+            self.ctrl0(mode);
+        }
+        let weak_from = self.random.pick(&[0, 3, 7, 8, 8, 8]);
+        for &(command, _, _, job) in TABLE_1 {
+            let written = match job {
+                // The drawn bit in byte 4's lowest place must not count.
+                Job::WriteFilter(_) => {
+                    let mut bytes = self.any_frame().filter_bytes();
+                    bytes[3] |= self.random.byte() & 1;
+                    bytes
+                }
+                Job::WriteMask(n) => self.any_mask(n >= weak_from),
+                _ => continue,
+            };
+            let mut bytes = vec![command];
+            bytes.extend_from_slice(&written);
+            self.spi(&bytes);
+        }
+        if self.random.chance(30) {
+            let reads = TABLE_1.iter().filter(|&&(_, _, reply, _)| reply == 6);
+            let codes: Vec<u8> = reads.map(|&(command, ..)| command).collect();
+            for _ in 0..4 {
+                let code = self.random.pick(&codes);
+                self.spi(&[code]);
+            }
+        }
+        let btr = self.random.pick(&[0x18, 0x1A]);
+        let value = self.random.edge_byte();
+        self.spi(&[btr, value]);
+        let mode = self.random.pick(&[0x00, 0x00, 0x20, 0x40, 0x80]);
+        self.ctrl0(mode);
+        self.filtered_arrivals();
+    }
+
+    /// A frame that one filter lets pass, but for at most one bit.
+    fn frame_at_filter(&mut self) -> Frame {
+        let n = self.random.below(8);
+        let mut wanted = self.device().filters[n];
+        let mask = self.device().masks[n];
+        if self.random.chance(50) {
+            for i in 0..6 {
+                wanted[i] ^= self.random.byte() & !mask[i];
+            }
+        }
+        if self.random.chance(60) {
+            // Mostly a bit that counts; bits of an identifier only where the frame has them.
+            let standard = wanted[1] & 0x08 == 0;
+            let mut bit = self.random.below(48);
+            for _ in 0..20 {
+                let lacking = standard && (13..32).contains(&bit);
+                if !lacking && mask[bit / 8] << (bit % 8) & 0x80 != 0 {
+                    break;
+                }
+                bit = self.random.below(48);
+            }
+            wanted[bit / 8] ^= 0x80 >> (bit % 8);
+        }
+        let extended = wanted[1] & 0x08 != 0;
+        let remote = wanted[1] & 0x10 != 0;
+        let high = u32::from(wanted[0]) << 3 | u32::from(wanted[1]) >> 5;
+        let low =
+            u32::from(wanted[1] & 7) << 15 | u32::from(wanted[2]) << 7 | u32::from(wanted[3]) >> 1;
+        // Bytes that are to compare as zero may as well be lacking.
+        let shortest = match (wanted[4], wanted[5]) {
+            (0, 0) => 0,
+            (_, 0) => 1,
+            _ => 2,
+        };
+        let length_code = self.random.between(shortest, 4) as u8;
+        let mut data = vec![wanted[4], wanted[5], self.random.byte(), self.random.byte()];
+        data.truncate(data_bytes(length_code, remote));
+        Frame {
+            identifier: if extended { high << 18 | low } else { high },
+            extended,
+            remote,
+            length_code,
+            data,
+        }
+    }
+
+    pub fn filtered_arrivals(&mut self) {
+        if self.device().ctrl1 & CTRL1_FILTON == 0 && self.random.chance(80) {
+            let others = self.random.pick(&[0x00, 0x80, 0x4F]);
+            self.spi(&[0x16, CTRL1_FILTON | others]);
+        }
+        for _ in 0..self.random.between(3, 14) {
+            let frame = if self.random.chance(90) {
+                self.frame_at_filter()
+            } else {
+                self.any_frame()
+            };
+            self.say_frame(&frame);
+            let look = self
+                .random
+                .pick(&[0xDA, 0xDA, 0xDE, 0x42, 0x46, 0x48, 0x4C]);
+            if self.random.chance(60) {
+                self.spi(&[look]);
+            }
+        }
+    }
+
+    pub fn drain(&mut self) {
+        for _ in 0..self.random.pick(&[2, 9, 9]) {
+            let code = self.random.pick(&FIFO_READS);
+            self.spi(&[code]);
+            if self.device().receive_fifo.is_empty() {
+                break;
+            }
+        }
+        for _ in 0..self.random.pick(&[2, 9, 9]) {
+            self.spi(&[0xEE]);
+            if self.device().history.is_empty() {
+                break;
+            }
+        }
+    }
+}

@@ -1,0 +1,114 @@
+//! Hostile bytes: drawn scripts that were damaged, pure chance, and lines that never seem to end.
+
+use crate::draw::{draw, text};
+use crate::random::Random;
+use crate::script::LONGEST_LINE;
+
+/// The last line of all has no newline, and is a request.
+const LAST: &[u8] = b"\nspi D2";
+
+pub struct Noise {
+    random: Random,
+    left: usize,
+}
+
+impl Noise {
+    pub fn new(seed: u64, bytes: usize) -> Noise {
+        Noise {
+            random: Random::new(seed),
+            left: bytes,
+        }
+    }
+
+    pub fn chunk(&mut self) -> Option<Vec<u8>> {
+        if self.left == 0 {
+            return None;
+        }
+        let mut chunk = match self.random.below(20) {
+            0 => self.long_line(),
+            1 | 2 => self.pure_chance(),
+            _ => self.damaged_script(),
+        };
+        if chunk.len() + LAST.len() >= self.left {
+            chunk.truncate(self.left.saturating_sub(LAST.len()));
+            chunk.extend_from_slice(LAST);
+            chunk.truncate(self.left);
+        }
+        self.left -= chunk.len();
+        Some(chunk)
+    }
+
+    fn pure_chance(&mut self) -> Vec<u8> {
+        let length = self.random.below(5000);
+        (0..length).map(|_| self.random.byte()).collect()
+    }
+
+    fn damaged_script(&mut self) -> Vec<u8> {
+        let seed = self.random.bits();
+        let length = self.random.between(20, 200);
+        let script = text(&draw(seed, length)).into_bytes();
+        let rate = self.random.pick(&[0, 10, 100, 1000]);
+        let mut damaged = Vec::with_capacity(script.len());
+        for byte in script {
+            if rate == 0 || self.random.below(rate) > 0 {
+                damaged.push(byte);
+            } else {
+                self.damage(&mut damaged, byte);
+            }
+        }
+        damaged
+    }
+
+    fn damage(&mut self, damaged: &mut Vec<u8>, byte: u8) {
+        match self.random.below(9) {
+            0 => damaged.push(byte ^ 1 << self.random.below(8)),
+            1 => {}
+            2 => damaged.extend_from_slice(&[byte, byte]),
+            3 => damaged.extend_from_slice(&[byte, self.random.byte()]),
+            4 => damaged.extend_from_slice(&[byte, 0]),
+            5 => damaged.extend_from_slice(&[byte, b'\r']),
+            6 => damaged.extend_from_slice(&[byte, self.random.pick(b" \t#\n/")]),
+            // Joins this line to the one before.
+            7 => {
+                if let Some(end) = damaged.iter().rposition(|&b| b == b'\n') {
+                    damaged[end] = self.random.pick(b" \0\r");
+                }
+                damaged.push(byte);
+            }
+            _ => {
+                let again = damaged.len().saturating_sub(self.random.below(40));
+                damaged.extend_from_within(again..);
+                damaged.push(byte);
+            }
+        }
+    }
+
+    /// Just long enough to be read, just too long, or far too long.
+    fn long_line(&mut self) -> Vec<u8> {
+        let length = match self.random.below(4) {
+            0 => LONGEST_LINE,
+            1 => LONGEST_LINE + 1,
+            2 => self.random.between(LONGEST_LINE - 3, LONGEST_LINE + 3),
+            _ => self.random.below(4 * LONGEST_LINE),
+        };
+        let (start, fill): (&[u8], &[u8]) = match self.random.below(8) {
+            0 => (b"\nspi D2", b" "),
+            1 => (b"\nspi", b" 00"),
+            2 => (b"\nticks ", b"7"),
+            3 => (b"\nframe ", b"0"),
+            4 => (b"\nframe 0 std data ", b"1"),
+            5 => (b"\npins #", b"#x"),
+            6 => (b"\n", b"\t\r "),
+            _ => (b"\n", b"\0\xFF"),
+        };
+        let mut line = start.to_vec();
+        // Its own newline before it is not part of the line.
+        while line.len() < 1 + length {
+            line.extend_from_slice(fill);
+        }
+        line.truncate(1 + length);
+        let ends: [&[u8]; 4] = [b"spi D2\n", b"\n", b"# spi 56\n", b"#\n"];
+        line.extend_from_slice(self.random.pick(&ends));
+        line
+    }
+}
