@@ -1,10 +1,9 @@
-// The error counters REC and TEC, bus off and the groups of recessive bits that end it: one small record, the rules that
-// move it, and what the registers show of it.
+// The error counters REC and TEC, bus off and the groups of recessive bits that end it: one small record and the rules that
+// move it.
 ghost use mathlib.Core.Path.{_≡_};
 ghost use Prim.Native.Nat.{_+_, _-_, min};
 ghost use Rattle.counters.specs.Rules.{receiveError, dominantBit, goodFrame, transmitError, completed};
 ghost use Rattle.counters.specs.Rules.{elevenRecessive, writeRec, writeTec};
-ghost use Rattle.counters.specs.Drawn.{warns, rxerrp, txerrp, errw, errp, errBits, tecShown, groupsShown};
 
 pub mod lent;
 
@@ -130,65 +129,4 @@ pub fn write_tec(c: Counters, tec: u8) -> Counters
 {
     let busoff = c.busoff;
     if busoff { c } else { Counters { tec, ..c } }
-}
-
-fn warns(n: u8) -> bool
-    ensures { λ r. ⌜ r ≡ warns n ⌝ }
-{
-    if 96 <= n { n <= 127 } else { false }
-}
-
-fn rxerrp(c: Counters) -> bool
-    ensures { λ r. ⌜ r ≡ rxerrp c ⌝ }
-{
-    128 <= c.rec
-}
-
-fn txerrp(c: Counters) -> bool
-    ensures { λ r. ⌜ r ≡ txerrp c ⌝ }
-{
-    let busoff = c.busoff;
-    if busoff { false } else { 128 <= c.tec }
-}
-
-pub fn errw(c: Counters) -> bool
-    ensures { λ r. ⌜ r ≡ errw c ⌝ }
-{
-    let busoff = c.busoff;
-    if warns(c.rec) {
-        true
-    } else if busoff {
-        false
-    } else {
-        warns(c.tec)
-    }
-}
-
-pub fn errp(c: Counters) -> bool
-    ensures { λ r. ⌜ r ≡ errp c ⌝ }
-{
-    if rxerrp(c) { true } else { txerrp(c) }
-}
-
-// Bits 7 to 5 of ERR.
-pub fn err_bits(c: Counters) -> u8
-    ensures { λ r. ⌜ r ≡ errBits c ⌝ }
-{
-    base::flag(c.busoff) * 128 + base::flag(txerrp(c)) * 64 + base::flag(rxerrp(c)) * 32
-}
-
-// What 0xEC reads.
-pub fn tec_shown(c: Counters) -> u8
-    ensures { λ r. ⌜ r ≡ tecShown c ⌝ }
-{
-    let busoff = c.busoff;
-    if busoff { 255 } else { c.tec }
-}
-
-// What 0xF8 reads.
-pub fn groups_shown(c: Counters) -> u8
-    ensures { λ r. ⌜ r ≡ groupsShown c ⌝ }
-{
-    let busoff = c.busoff;
-    if busoff { up_to(128, c.groups, 0) } else { 0 }
 }

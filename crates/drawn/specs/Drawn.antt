@@ -5,7 +5,7 @@ use lib.Bits.{bitAnd}
 use lib.Dec.{eqb, ltb}
 use Rattle.base.specs.Bit.{isSet}
 use Rattle.base.specs.Pick.{pick, flag}
-use Rattle.counters.specs.Drawn.{errw, errp, errBits}
+use Rattle.levels.specs.Levels.{errw, errp, errBits}
 use Rattle.chip.specs.declared.Device.{Device}
 use Rattle.chip.specs.State.{enabled, idle}
 

@@ -17,8 +17,8 @@ pub fn statf(d: Device) -> u8
     base::flag(d.tx.count == 0) * 128
         + base::flag(d.tx.count == 8) * 64
         + base::flag(d.history.count == 8) * 32
-        + base::flag(counters::errw(c)) * 16
-        + base::flag(counters::errp(c)) * 8
+        + base::flag(levels::errw(c)) * 16
+        + base::flag(levels::errp(c)) * 8
         + base::flag(c.busoff) * 4
         + base::flag(d.rx.count == 0) * 2
         + base::flag(d.rx.count == 8)
@@ -29,7 +29,7 @@ pub fn err(d: Device) -> u8
     ensures { λ r. ⌜ r ≡ err d ⌝ }
 {
     let c = d.counters;
-    counters::err_bits(c) + d.regs.errs % 32
+    levels::err_bits(c) + d.regs.errs % 32
 }
 
 fn tstat(d: Device) -> u8

@@ -4,7 +4,7 @@ use Prim.Native.Nat.{ℕ, _/_, _%_}
 use lib.ListN.{take, drop, getD, replicate}
 use Rattle.base.specs.Pick.{among}
 use Rattle.base.specs.Put.{putOf}
-use Rattle.counters.specs.Drawn.{tecShown, groupsShown}
+use Rattle.levels.specs.Levels.{tecShown, groupsShown}
 use Rattle.fifo.specs.declared.Message.{Message}
 use Rattle.fifo.specs.Queue.{next}
 use Rattle.chip.specs.declared.Device.{Device}

@@ -90,8 +90,8 @@ fn register(d: Device, v: u8) -> u8
         verb::READ_STATFE => d.regs.statfe,
         verb::READ_GPINE => d.regs.gpine,
         verb::READ_REC => c.rec,
-        verb::READ_TEC => counters::tec_shown(c),
-        verb::READ_RECESSIVE_COUNT => counters::groups_shown(c),
+        verb::READ_TEC => levels::tec_shown(c),
+        verb::READ_RECESSIVE_COUNT => levels::groups_shown(c),
         _ => 0,
     }
 }

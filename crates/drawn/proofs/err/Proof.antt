@@ -1,5 +1,5 @@
 -- `drawn::err` meets its contract. Assumes nothing.
-use Rattle.counters.proofs.Bounds.{err-bits-le}
+use Rattle.levels.proofs.Bounds.{err-bits-le}
 use native.Mathlib.Omega.{arith}
 use Rattle.drawn.specs.Drawn.{err}
 use borrow.Author.Needs.{needs}

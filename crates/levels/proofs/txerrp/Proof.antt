@@ -1,7 +1,7 @@
--- `counters::txerrp` meets its contract. Assumes nothing.
-use Rattle.counters.specs.Drawn.{txerrp}
-use Rattle.counters.proofs.txerrp.Statement.{statement}
-use Rattle.counters.proofs.txerrp.Tie as tie
+-- `levels::txerrp` meets its contract. Assumes nothing.
+use Rattle.levels.specs.Levels.{txerrp}
+use Rattle.levels.proofs.txerrp.Statement.{statement}
+use Rattle.levels.proofs.txerrp.Tie as tie
 
 returns : tie.Need-returns
 unfolding txerrp

@@ -1,8 +1,8 @@
--- `counters::errp` meets its contract. Assumes nothing.
+-- `levels::errp` meets its contract. Assumes nothing.
 use borrow.Author.Needs.{needs}
-use Rattle.counters.specs.Drawn.{errp}
-use Rattle.counters.proofs.errp.Statement.{statement}
-use Rattle.counters.proofs.errp.Tie as tie
+use Rattle.levels.specs.Levels.{errp}
+use Rattle.levels.proofs.errp.Statement.{statement}
+use Rattle.levels.proofs.errp.Tie as tie
 
 rxerrp-requires : tie.Need-rxerrp-requires
 rxerrp-requires c κs = search needs

@@ -2,8 +2,8 @@
 use Prim.Native.Nat.{_≤_}
 use native.Mathlib.Omega.{arith}
 use Rattle.base.proofs.Booleans.{flag-le}
 use Rattle.counters.specs.declared.Counters.{Counters}
-use Rattle.counters.specs.Drawn.{rxerrp, txerrp, errBits}
+use Rattle.levels.specs.Levels.{rxerrp, txerrp, errBits}
 
 pub err-bits-le : (c : Counters) → errBits c ≤ 224
 unfolding errBits

@@ -3,9 +3,9 @@ use mathlib.Core.Path.{_≡_, refl}
 use mathlib.Core.List.{List, [], _∷_}
 use Prim.Native.Nat.{ℕ}
 use Rattle.base.specs.Pick.{flag}
 use Rattle.counters.specs.declared.Counters.{Counters}
 use Rattle.counters.specs.Rules.{zeroed, with-rec, with-tec, receiveError, goodFrame, transmitError, completed}
-use Rattle.counters.specs.Drawn.{errw, errp, rxerrp, txerrp}
+use Rattle.levels.specs.Levels.{errw, errp, rxerrp, txerrp}
 
 abbrev pub rec-at : ℕ → Counters
 rec-at n = with-rec zeroed n

@@ -1,8 +1,8 @@
--- `counters::err_bits` meets its contract. Assumes nothing.
+-- `levels::err_bits` meets its contract. Assumes nothing.
 use borrow.Author.Needs.{needs}
-use Rattle.counters.specs.Drawn.{errBits}
-use Rattle.counters.proofs.err_bits.Statement.{statement}
-use Rattle.counters.proofs.err_bits.Tie as tie
+use Rattle.levels.specs.Levels.{errBits}
+use Rattle.levels.proofs.err_bits.Statement.{statement}
+use Rattle.levels.proofs.err_bits.Tie as tie
 
 flag-requires : tie.Need-flag-requires
 flag-requires c κs = search needs

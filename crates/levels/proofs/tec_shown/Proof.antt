@@ -1,8 +1,8 @@
--- `counters::tec_shown` meets its contract. Assumes nothing.
+-- `levels::tec_shown` meets its contract. Assumes nothing.
 use Rattle.base.specs.Pick.{picks}
-use Rattle.counters.specs.Drawn.{tecShown}
-use Rattle.counters.proofs.tec_shown.Statement.{statement}
-use Rattle.counters.proofs.tec_shown.Tie as tie
+use Rattle.levels.specs.Levels.{tecShown}
+use Rattle.levels.proofs.tec_shown.Statement.{statement}
+use Rattle.levels.proofs.tec_shown.Tie as tie
 
 returns : tie.Need-returns
 unfolding tecShown

@@ -1,7 +1,7 @@
--- `counters::warns` meets its contract. Assumes nothing.
+-- `levels::warns` meets its contract. Assumes nothing.
 use borrow.Author.Tests.{le-leb, lt-leb}
-use Rattle.counters.proofs.warns.Statement.{statement}
-use Rattle.counters.proofs.warns.Tie as tie
+use Rattle.levels.proofs.warns.Statement.{statement}
+use Rattle.levels.proofs.warns.Tie as tie
 
 returns : tie.Need-returns
 returns c = rw (le-leb _ _ (c .if1 .taken))

@@ -1,8 +1,8 @@
--- `counters::errw` meets its contract. Assumes nothing.
+-- `levels::errw` meets its contract. Assumes nothing.
 use borrow.Author.Needs.{needs}
-use Rattle.counters.specs.Drawn.{errw}
-use Rattle.counters.proofs.errw.Statement.{statement}
-use Rattle.counters.proofs.errw.Tie as tie
+use Rattle.levels.specs.Levels.{errw}
+use Rattle.levels.proofs.errw.Statement.{statement}
+use Rattle.levels.proofs.errw.Tie as tie
 
 warns-requires : tie.Need-warns-requires
 warns-requires c κs = search needs
