@@ -8,7 +8,7 @@ use Rattle.base.specs.Bit.{byte}
 use Rattle.base.specs.Pick.{pick, among}
 use Rattle.counters.specs.Rules.{writeRec, writeTec}
 use Rattle.fifo.specs.Queue.{empty, put, take}
-use Rattle.frame.specs.Sent.{readMessage as messageRead, stored}
+use Rattle.sent.specs.Sent.{readMessage as messageRead, stored}
 use Rattle.chip.specs.declared.Device.{Device}
 use Rattle.chip.specs.declared.Pattern.{Pattern}
 use Rattle.chip.specs.declared.Registers.{Registers}

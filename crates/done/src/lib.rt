@@ -48,9 +48,9 @@ fn message_written(d: Device, bytes: &[u8]) -> Device
     if bytes.len() == 0 {
         return d;
     }
-    let reading = frame::sent::read_message(&bytes[1..]);
+    let reading = sent::read_message(&bytes[1..]);
     let message = reading.message;
-    let bytes = frame::sent::stored(message);
+    let bytes = sent::stored(message);
     let tx = d.tx;
     let longer = fifo::put(tx, Message { bytes });
     let mut e = d;

@@ -15,8 +15,6 @@ use Rattle.frame.specs.declared.Header.{Header}
 use Rattle.frame.specs.Length.{possible, dataBytes, dataOf}
 use Rattle.frame.specs.Tables.{idBits, idFrom, readId}
 use Rattle.frame.specs.Received.{received, headerIn, timeIn, filterIn, dataIn}
-use Rattle.frame.specs.Sent.{stored}
-use Rattle.frame.specs.declared.sent.Message.{Message}
 use Rattle.frame.proofs.Parts.{third-bit, last-bit, id-back, code-fits, id-bits-lt, id-bits-back, header-path}
 
 module _ (h : Header) (bytes : List ℕ) (time filhit : ℕ) where
@@ -84,13 +82,3 @@ received-once h h′ b b′ t t′ f f′ ok ok′ e = record {
 pub data-start : (h : Header) (bytes : List ℕ) → dataBytes h ≤ length bytes → take (dataBytes h) (dataOf h bytes) ≡ take (dataBytes h) bytes
 unfolding dataOf
 data-start h bytes enough = take-at (take (dataBytes h) bytes) _ (dataBytes h) (length-take-le (dataBytes h) bytes enough)
-
--- What the transmit FIFO keeps of a message has its header and its data, for the arrival in loopback.
-module _ (m : Message) where
-  pub stored-header : possible (m .header) ≡ true → headerIn (stored m) ≡ m .header
-  unfolding stored received readId headerIn
-  stored-header ok = header-back (m .header) (m .bytes) 0 0 ok
-
-  pub stored-data : dataIn (stored m) ≡ dataOf (m .header) (m .bytes)
-  unfolding stored received readId
-  stored-data = refl

@@ -1,4 +1,3 @@
 pub mod Length
 pub mod Tables
 pub mod Received
-pub mod Sent

@@ -1,5 +1,5 @@
 // A CAN frame as the HI-3110 lays it out in bytes: the length rule, the identifier's bytes to send, as read and as
-// compared, the sixteen bytes of a received message and, in `sent`, the message that 0x12 brings.
+// compared, and the sixteen bytes of a message.
 ghost use mathlib.Core.Path.{_≡_};
 ghost use Prim.Native.Nat.{_≤_};
 ghost use lib.ListN.{length};
@@ -7,8 +7,6 @@ ghost use Rattle.base.specs.Bit.{bits};
 ghost use Rattle.frame.specs.Length.{dataLength, dataBytes, possible, dataFits, dataOf};
 ghost use Rattle.frame.specs.Tables.{idBits, idToSend, readId, compared, idFrom};
 ghost use Rattle.frame.specs.Received.{received, headerIn, dataIn};
-
-pub mod sent;
 
 // What a frame says before its data.
 pub struct Header {
@@ -217,7 +215,7 @@ pub fn received(h: Header, payload: [u8; 8], time: u16, filhit: u8) -> [u8; 16]
 }
 
 // ID28 to ID0 from their four bytes.
-fn id_from(a: u8, b: u8, c: u8, d: u8) -> u32
+pub fn id_from(a: u8, b: u8, c: u8, d: u8) -> u32
     ensures { λ r. ⌜ r ≡ idFrom a b c d ⌝ }
 {
     (a as u32) * ID21

@@ -6,7 +6,7 @@ use lib.Dec.{eqb, leb, ltb}
 use lib.ListN.{length, drop}
 use Rattle.base.specs.Bit.{byte}
 use Rattle.base.specs.Pick.{pick, among}
-use Rattle.frame.specs.Sent.{rightLength}
+use Rattle.sent.specs.Sent.{rightLength}
 use Rattle.chip.specs.declared.Device.{Device}
 use Rattle.chip.specs.Proper.{proper}
 use Rattle.chip.specs.State.{initialization}

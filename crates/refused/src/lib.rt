@@ -29,7 +29,7 @@ fn length_fits(r: Row, bytes: &[u8]) -> bool
         return false;
     }
     if v == verb::WRITE_MESSAGE {
-        return frame::sent::right_length(&bytes[1..]);
+        return sent::right_length(&bytes[1..]);
     }
     true
 }

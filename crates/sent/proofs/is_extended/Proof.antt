@@ -1,7 +1,7 @@
--- `frame::sent::is_extended` meets its contract. Assumes nothing.
+-- `sent::is_extended` meets its contract. Assumes nothing.
 use borrow.Author.Needs.{needs}
-use Rattle.frame.proofs.sent.is_extended.Statement.{statement}
-use Rattle.frame.proofs.sent.is_extended.Tie as tie
+use Rattle.sent.proofs.is_extended.Statement.{statement}
+use Rattle.sent.proofs.is_extended.Tie as tie
 
 at-requires : tie.Need-at-requires
 at-requires c κs = search needs

@@ -1,9 +1,9 @@
--- `frame::sent::data_from` meets its contract. Assumes nothing.
+-- `sent::data_from` meets its contract. Assumes nothing.
 use mathlib.Core.Path.{refl, sym, _∙_}
 use borrow.Author.Needs.{needs}
 use Rattle.base.specs.Pick.{pick-yes, pick-no}
-use Rattle.frame.proofs.sent.data_from.Statement.{statement}
-use Rattle.frame.proofs.sent.data_from.Tie as tie
+use Rattle.sent.proofs.data_from.Statement.{statement}
+use Rattle.sent.proofs.data_from.Tie as tie
 
 is-extended-requires : tie.Need-is-extended-requires
 is-extended-requires c κs = search needs

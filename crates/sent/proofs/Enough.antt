@@ -9,8 +9,8 @@ use lib.Dec.{leb}
 use lib.ListN.{length}
 use Rattle.base.specs.Pick.{pick}
 use Rattle.base.proofs.Booleans.{and-left}
 use Rattle.frame.specs.Length.{dataBytes}
-use Rattle.frame.specs.Sent.{isExtended, dataFrom, headerSent, rightLength}
+use Rattle.sent.specs.Sent.{isExtended, dataFrom, headerSent, rightLength}
 
 pub data-from-le : (s : List ℕ) → dataFrom s ≤ 6
 data-from-le s = go (isExtended s)

@@ -1,10 +1,10 @@
--- `frame::sent::read_message` meets its contract. Assumes nothing.
+-- `sent::read_message` meets its contract. Assumes nothing.
 use mathlib.Core.Path.{refl, sym, _∙_}
 use borrow.Author.Needs.{needs}
 use Rattle.base.specs.Pick.{pick-yes, pick-no}
-use Rattle.frame.specs.Sent.{readMessage}
-use Rattle.frame.proofs.sent.read_message.Statement.{statement}
-use Rattle.frame.proofs.sent.read_message.Tie as tie
+use Rattle.sent.specs.Sent.{readMessage}
+use Rattle.sent.proofs.read_message.Statement.{statement}
+use Rattle.sent.proofs.read_message.Tie as tie
 
 right-length-requires : tie.Need-right-length-requires
 right-length-requires c κs = search needs

@@ -1,12 +1,12 @@
--- `frame::sent::right_length` meets its contract. Assumes nothing.
+-- `sent::right_length` meets its contract. Assumes nothing.
 use native.Mathlib.Omega.{arith}
 use borrow.Author.Tests.{le-leb, lt-leb}
 use borrow.Author.Needs.{needs}
-use Rattle.frame.specs.Sent.{rightLength}
-use Rattle.frame.proofs.Enough.{data-from-le}
+use Rattle.sent.specs.Sent.{rightLength}
+use Rattle.sent.proofs.Enough.{data-from-le}
 use Rattle.frame.proofs.Data.{data-bytes-le}
-use Rattle.frame.proofs.sent.right_length.Statement.{statement}
-use Rattle.frame.proofs.sent.right_length.Tie as tie
+use Rattle.sent.proofs.right_length.Statement.{statement}
+use Rattle.sent.proofs.right_length.Tie as tie
 
 data-from-requires : tie.Need-data-from-requires
 data-from-requires c κs = search needs

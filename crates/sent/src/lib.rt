@@ -1,9 +1,9 @@
 // The message that 0x12 brings after its command byte: Table 2.
 ghost use mathlib.Core.Path.{_≡_};
 ghost use mathlib.Core.Bool.{true};
-ghost use Rattle.frame.specs.Sent.{isExtended, dataFrom, standardHeader, extendedHeader, headerSent};
-ghost use Rattle.frame.specs.Sent.{rightLength, messageIn, readMessage, stored};
-use crate::Header;
+ghost use Rattle.sent.specs.Sent.{isExtended, dataFrom, standardHeader, extendedHeader, headerSent};
+ghost use Rattle.sent.specs.Sent.{rightLength, messageIn, readMessage, stored};
+use frame::Header;
 
 pub struct Message {
     // Told again in the transmit history.
@@ -45,7 +45,7 @@ fn extended(a: u8, b: u8, c: u8, d: u8, length: u8) -> Header
     ensures { λ r. ⌜ r ≡ extendedHeader a b c d length ⌝ }
 {
     Header {
-        id: crate::id_from(a, b, c, d),
+        id: frame::id_from(a, b, c, d),
         extended: true,
         remote: d % 2 == 1,
         code: length % 16,
@@ -73,7 +73,7 @@ pub fn right_length(s: &[u8]) -> bool
     ensures { λ r. ⌜ r ≡ rightLength (now (s .entry)) ⌝ }
 {
     let from = data_from(s);
-    let least = from + crate::data_bytes(header_sent(s));
+    let least = from + frame::data_bytes(header_sent(s));
     if least <= s.len() {
         s.len() <= from + 8
     } else {
@@ -88,7 +88,9 @@ fn message_in(s: &[u8]) -> Message
     let tag = base::at(s, 0);
     let header = header_sent(s);
     let from = data_from(s);
-    let bytes = crate::data_of(header, &s[from..]);
+    let end = from + frame::data_bytes(header);
+    let mut bytes = [0u8; 8];
+    base::put(&s[from..end], &mut bytes);
     Message { tag, header, bytes }
 }
 
@@ -126,7 +128,7 @@ pub fn stored(m: Message) -> [u8; 16]
 {
     let header = m.header;
     let eight = m.bytes;
-    let mut bytes = crate::received(header, eight, 0, 0);
+    let mut bytes = frame::received(header, eight, 0, 0);
     bytes[0] = m.tag;
     bytes
 }

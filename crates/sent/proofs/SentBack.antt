@@ -11,11 +11,11 @@ use lib.ListN.{length, take, drop}
 use Rattle.base.specs.Bit.{bit, bits}
 use Rattle.base.specs.Pick.{pick, flag}
 use Rattle.base.proofs.Booleans.{flag-le, flag-back}
 use Rattle.frame.specs.declared.Header.{Header}
 use Rattle.frame.specs.Length.{possible, dataBytes, dataOf}
 use Rattle.frame.specs.Tables.{idBits, idToSend}
-use Rattle.frame.specs.Sent.{isExtended, dataFrom, headerSent, standardHeader, extendedHeader, rightLength, readMessage}
+use Rattle.sent.specs.Sent.{isExtended, dataFrom, headerSent, standardHeader, extendedHeader, rightLength, readMessage}
 use Rattle.frame.proofs.Parts.{third-bit, last-bit, id-back, code-fits, id-fits, id-bits-lt, id-bits-back, header-path}
 
 -- "A message to send is tag, identifier (2 or 4 bytes), length code, data."
 abbrev pub written : ℕ → Header → List ℕ → List ℕ

@@ -1,8 +1,8 @@
--- `frame::sent::extended` meets its contract. Assumes nothing.
+-- `sent::extended` meets its contract. Assumes nothing.
 use native.Mathlib.Nat.{div-one}
 use borrow.Author.Needs.{needs}
-use Rattle.frame.proofs.sent.extended.Statement.{statement}
-use Rattle.frame.proofs.sent.extended.Tie as tie
+use Rattle.sent.proofs.extended.Statement.{statement}
+use Rattle.sent.proofs.extended.Tie as tie
 
 id-from-requires : tie.Need-id-from-requires
 id-from-requires c κs = search needs

@@ -6,12 +6,12 @@ use lib.Dec.{leb}
 use lib.ListN.{length, drop, replicate}
 use Rattle.base.specs.Bit.{bits, byte, isSet}
 use Rattle.base.specs.Pick.{pick}
 use Rattle.frame.specs.declared.Header.{Header}
-use Rattle.frame.specs.declared.sent.Message.{Message}
-use Rattle.frame.specs.declared.sent.Reading.{Reading}
+use Rattle.sent.specs.declared.Message.{Message}
+use Rattle.sent.specs.declared.Reading.{Reading}
 use Rattle.frame.specs.Length.{dataBytes, dataOf}
 use Rattle.frame.specs.Received.{received}
 use Rattle.frame.specs.Tables.{idFrom}
 
 -- "in 0x12 the IDE bit alone tells the kind; SRR and unused bits are ignored"
 abbrev pub isExtended : List ℕ → Bool

@@ -1,9 +1,9 @@
--- `frame::sent::stored` meets its contract. Assumes nothing.
+-- `sent::stored` meets its contract. Assumes nothing.
 use Rattle.frame.specs.Received.{received}
-use Rattle.frame.specs.Sent.{stored}
+use Rattle.sent.specs.Sent.{stored}
 use borrow.Author.Needs.{needs}
-use Rattle.frame.proofs.sent.stored.Statement.{statement}
-use Rattle.frame.proofs.sent.stored.Tie as tie
+use Rattle.sent.proofs.stored.Statement.{statement}
+use Rattle.sent.proofs.stored.Tie as tie
 
 received-requires : tie.Need-received-requires
 received-requires c κs = search needs

@@ -1,10 +1,10 @@
--- `frame::sent::header_sent` meets its contract. Assumes nothing.
+-- `sent::header_sent` meets its contract. Assumes nothing.
 use mathlib.Core.Path.{sym, _∙_}
 use borrow.Author.Needs.{needs}
 use Rattle.base.specs.Pick.{pick-yes, pick-no}
-use Rattle.frame.specs.Sent.{headerSent}
-use Rattle.frame.proofs.sent.header_sent.Statement.{statement}
-use Rattle.frame.proofs.sent.header_sent.Tie as tie
+use Rattle.sent.specs.Sent.{headerSent}
+use Rattle.sent.proofs.header_sent.Statement.{statement}
+use Rattle.sent.proofs.header_sent.Tie as tie
 
 is-extended-requires : tie.Need-is-extended-requires
 is-extended-requires c κs = search needs

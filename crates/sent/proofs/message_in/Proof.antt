@@ -1,0 +1,82 @@
+-- `sent::message_in` meets its contract. Assumes nothing.
+use mathlib.Core.Path.{_≡_, ap, _∙_}
+use Prim.Native.Nat.{_+_, _-_}
+use native.Mathlib.Omega.{arith}
+use borrow.Author.Needs.{needs}
+use lib.ListN.{drop, length-drop}
+use Rattle.base.specs.Bit.{byte}
+use Rattle.frame.specs.Length.{dataBytes}
+use Rattle.frame.proofs.Data.{data-bytes-le, data-put}
+use Rattle.sent.specs.Sent.{dataFrom, headerSent}
+use Rattle.sent.proofs.Enough.{data-from-le, enough}
+use Rattle.sent.proofs.message_in.Statement.{statement}
+use Rattle.sent.proofs.message_in.Tie as tie
+
+at-requires : tie.Need-at-requires
+at-requires c κs = search needs
+
+header-sent-requires : tie.Need-header-sent-requires
+header-sent-requires c κs = search needs
+
+data-from-requires : tie.Need-data-from-requires
+data-from-requires c κs = search needs
+
+data-bytes-requires : tie.Need-data-bytes-requires
+data-bytes-requires c κs = search needs
+
+add-end : tie.Need-add-end
+add-end c =
+    let s = c .before .before .before .before .before .args .s .now in
+    record { fits = omega (arith, data-from-le s, data-bytes-le (c .before .before .header-sent .result), c .data-bytes .ensures, c .before .data-from .ensures) }
+
+sub-put : tie.Need-sub-put
+sub-put c = search needs
+
+part-put-start : tie.Need-part-put-start
+part-put-start c = search needs
+
+part-put-end : tie.Need-part-put-end
+part-put-end c =
+    let b = c .before .before .before .before .before in
+    let n : c .data-bytes .result ≡ dataBytes (headerSent (b .args .s .now)) = c .data-bytes .ensures ∙ ap dataBytes (c .before .before .header-sent .ensures) in
+    omega (arith, enough (b .args .s .now) (b .pre), n, c .before .data-from .ensures)
+
+slice-aggregate-put : tie.Need-slice-aggregate-put
+slice-aggregate-put c = search needs
+
+put-requires : tie.Need-put-requires
+put-requires c κs = search needs
+
+returns : tie.Need-returns
+returns c =
+    let b = c .before .before .before .before .before .before .before .before .before in
+    let s = b .args .s .now in
+    let f = c .before .before .before .before .before .data-from .result in
+    let m = c .before .before .before .before .data-bytes .result in
+    let back : f + m - f ≡ m = omega arith in
+    rw (
+      c .before .put .ensures,
+      back,
+      c .before .before .before .before .data-bytes .ensures,
+      c .before .before .before .before .before .data-from .ensures,
+      c .before .before .before .before .before .before .header-sent .ensures,
+      c .before .before .before .before .before .before .before .at .ensures,
+    )
+    (ap (λ l. record { tag = byte s 1; header = headerSent s; bytes = l })
+    (data-put (headerSent s) (drop (dataFrom s) s) (rw (length-drop) (omega (arith, enough s (b .pre))))))
+
+pub message-in-spec : {M : Type 1} → statement M
+message-in-spec =
+    tie.close
+    (tie.spec
+    at-requires
+    header-sent-requires
+    data-from-requires
+    data-bytes-requires
+    add-end
+    sub-put
+    part-put-start
+    part-put-end
+    slice-aggregate-put
+    put-requires
+    returns)
