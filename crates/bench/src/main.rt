@@ -6,6 +6,7 @@ ghost use lib.ListN.{length};
 mod records;
 
 use chip::Device;
+use host::Outcome;
 use libc::STDIN_FILENO;
 use libc::STDOUT_FILENO;
 
@@ -17,35 +18,56 @@ fn count(given: usize) -> usize
     if n <= 3000 { n } else { 3000 }
 }
 
-// The record at a place of the list, and its result at the same place.
-fn one(d: Device, work: &[u8], results: &mut [u8], i: usize) -> Device
-    requires { ⌜ i * 20 + 20 ≤ length (now work) ⌝ }
+fn transfer(o: Outcome, work: &[u8], results: &mut [u8], i: usize) -> Outcome
     requires { ⌜ i < 3000 ⌝ }
+    requires { ⌜ i * 20 + 20 ≤ length (now work) ⌝ }
+    requires { ⌜ 51000 ≤ length (now results) ⌝ }
 {
     let from = i * 20;
     let past = from + 20;
     let start = i * 17;
     let end = start + 17;
-    if end <= results.len() {
-        records::step(d, &work[from..past], &mut results[start..end])
-    } else {
-        d
-    }
+    records::transfer(o, &work[from..past], &mut results[start..end])
 }
 
-// The list once.
-fn round(d: Device, work: &[u8], results: &mut [u8]) -> Device {
+fn happens(o: Outcome, work: &[u8], results: &mut [u8], i: usize) -> Outcome
+    requires { ⌜ i < 3000 ⌝ }
+    requires { ⌜ i * 20 + 20 ≤ length (now work) ⌝ }
+    requires { ⌜ 51000 ≤ length (now results) ⌝ }
+{
+    let from = i * 20;
+    let past = from + 20;
+    let start = i * 17;
+    let end = start + 17;
+    records::happens(o, &work[from..past], &mut results[start..end])
+}
+
+// The list once. What a door gave is kept as it came, so that the device is copied nowhere but in the doors.
+fn round(d: Device, work: &[u8], results: &mut [u8]) -> Device
+    requires { ⌜ 51000 ≤ length (now results) ⌝ }
+{
     let n = count(work.len());
-    let mut e = d;
+    let mut o = Outcome {
+        device: d,
+        number: 0,
+    };
     let mut i: usize = 0;
     while i < n {
-        e = one(e, work, results, i);
-        i += 1;
+        if base::at(work, i * 20) == 0 {
+            o = transfer(o, work, results, i);
+            i += 1;
+        } else {
+            o = happens(o, work, results, i);
+            i += 1;
+        }
     }
+    let e = o.device;
     e
 }
 
-fn rounds(d: Device, n: u32, work: &[u8], results: &mut [u8]) {
+fn rounds(d: Device, n: u32, work: &[u8], results: &mut [u8])
+    requires { ⌜ 51000 ≤ length (now results) ⌝ }
+{
     let mut e = d;
     let mut i: u32 = 0;
     while i < n {
@@ -63,7 +85,9 @@ fn write(results: &[u8], used: usize) {
     }
 }
 
-fn run(input: &[u8], results: &mut [u8]) {
+fn run(input: &[u8], results: &mut [u8])
+    requires { ⌜ 51000 ≤ length (now results) ⌝ }
+{
     if input.len() < 4 {
         return;
     }

@@ -7,6 +7,7 @@ use chip::Device;
 use events::ErrorKind;
 use events::Event;
 use frame::Header;
+use host::Outcome;
 use judged::Answer;
 use receive::Arrival;
 
@@ -28,16 +29,16 @@ fn at_most_16(n: u8) -> usize
 }
 
 // The reply buffer that is lent stands in the result, after the number.
-fn transfer(d: Device, r: &[u8], result: &mut [u8]) -> Device
+pub(crate) fn transfer(o: Outcome, r: &[u8], result: &mut [u8]) -> Outcome
     requires { ⌜ length (now r) ≡ 20 ⌝ }
     requires { ⌜ length (now result) ≡ 17 ⌝ }
 {
     let given = 4 + at_most_16(r[2]);
     let lent = 1 + at_most_16(r[1]);
-    let o = host::transfer(d, &r[4..given], &mut result[1..lent]);
-    result[0] = o.number;
-    let e = o.device;
-    e
+    let d = o.device;
+    let p = host::transfer(d, &r[4..given], &mut result[1..lent]);
+    result[0] = p.number;
+    p
 }
 
 fn error_kind(n: u8) -> ErrorKind {
@@ -100,26 +101,16 @@ fn said(a: Answer) -> u8 {
     }
 }
 
-fn happens(d: Device, r: &[u8], result: &mut [u8]) -> Device
+pub(crate) fn happens(o: Outcome, r: &[u8], result: &mut [u8]) -> Outcome
     requires { ⌜ length (now r) ≡ 20 ⌝ }
     requires { ⌜ length (now result) ≡ 17 ⌝ }
 {
     let payload = [r[8], r[9], r[10], r[11], r[12], r[13], r[14], r[15]];
     let event = event_of(r);
-    let o = bus::event(d, event, payload);
-    let a = o.answer;
+    let d = o.device;
+    let p = bus::event(d, event, payload);
+    let a = p.answer;
     result[0] = said(a);
-    let e = o.device;
-    e
-}
-
-pub(crate) fn step(d: Device, r: &[u8], result: &mut [u8]) -> Device
-    requires { ⌜ length (now r) ≡ 20 ⌝ }
-    requires { ⌜ length (now result) ≡ 17 ⌝ }
-{
-    if r[0] == 0 {
-        transfer(d, r, result)
-    } else {
-        happens(d, r, result)
-    }
+    let device = p.device;
+    Outcome { device, number: 0 }
 }

@@ -11,7 +11,7 @@ use Rattle.judged.specs.declared.Answer.the-variants.{Refused, Done, Arrived}
 use Rattle.events.specs.declared.Event.{Event}
 use Rattle.bus.specs.declared.types.Outcome.{Outcome}
 use Rattle.judged.specs.Judged.{impossible, said}
-use Rattle.changed.specs.Changed.{after}
+use Rattle.changed.specs.Changed.{arrival, after}
 
 -- 01's number for each answer
 unfoldable pub numberOf : Answer → ℕ
@@ -41,8 +41,8 @@ answer d e bytes =
 
 abbrev pub outcome : Device → Event → List ℕ → Answer → Outcome
 outcome d e bytes (Refused n) = record { device = d; answer = Refused n }
-outcome d e bytes Done = record { device = after d e bytes; answer = Done }
-outcome d e bytes (Arrived what) = record { device = after d e bytes; answer = Arrived what }
+outcome d e bytes Done = record { device = after d e; answer = Done }
+outcome d e bytes (Arrived what) = record { device = arrival d e bytes what; answer = Arrived what }
 
 unfoldable pub event : Device → Event → List ℕ → Outcome
 event d e bytes = outcome d e bytes (answer d e bytes)

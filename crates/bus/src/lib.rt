@@ -33,14 +33,14 @@ pub fn event(d: Device, e: Event, payload: [u8; 8]) -> Outcome
             answer: Answer::Refused(n),
         },
         Answer::Done => {
-            let after = changed::after(d, e, payload);
+            let after = changed::after(d, e);
             Outcome {
                 device: after,
                 answer: Answer::Done,
             }
         }
         Answer::Arrived(what) => {
-            let arrived = changed::after(d, e, payload);
+            let arrived = changed::arrival(d, e, payload, what);
             Outcome {
                 device: arrived,
                 answer: Answer::Arrived(what),

@@ -10,7 +10,7 @@ use Rattle.frame.specs.declared.Header.{Header}
 use Rattle.frame.specs.Received.{headerIn, dataIn}
 use Rattle.chip.specs.declared.Device.{Device}
 use Rattle.chip.specs.Parts.{with-counters, with-time, with-txenpin}
-use Rattle.chip.specs.State.{normal, loopback, monitor, bor}
+use Rattle.chip.specs.State.{normal, monitor, bor}
 use Rattle.receive.specs.declared.Arrival.{Arrival}
 use Rattle.receive.specs.declared.Arrival.the-variants.{Queued, A1, A2, A3, A4, A5}
 use Rattle.flags.specs.Flags.{busError}
@@ -24,7 +24,6 @@ use Rattle.events.specs.declared.Event.{Event}
 use Rattle.events.specs.declared.Event.the-variants.{GoodFrame, ReceiveError, DominantBit, TransmitError, Begun, Completed}
 use Rattle.events.specs.declared.Event.the-variants.{ArbitrationLost, ElevenRecessive, BusQuiet, BusActivity, Ticks, TxenPin}
 use Rattle.events.specs.declared.Event.the-variants.{MasterReset, Unknown}
-use Rattle.judged.specs.Judged.{reason}
 
 -- 000, ERR: STUFERR is bit 0, ACKERR 1, CRCERR 2, FRMERR 3, BITERR 4
 unfoldable pub errBit : ErrorKind → ℕ
@@ -38,8 +37,8 @@ errBit Bit = 16
 unfoldable pub countedFrame : Counters → ℕ → Counters
 countedFrame c acting = pick (eqb acting normal) (goodFrame c) c
 
-unfoldable pub heard : Device → Header → List ℕ → Device
-heard d h bytes = with-counters (arrived d h bytes) (countedFrame (d .counters) (d .acting))
+unfoldable pub heard : Device → Header → List ℕ → Arrival → Device
+heard d h bytes what = with-counters (arrived d h bytes what) (countedFrame (d .counters) (d .acting))
 
 -- "A1 to A3 leave the temporary buffer alone. A4, A5 and Queued put the frame there."
 unfoldable pub reachesBuffer : Arrival → Bool
@@ -52,7 +51,7 @@ reachesBuffer A5 = true
 
 -- "With WAKEUP set, a bus activity event or a good frame in sleep brings monitor mode": a frame that isn't taken is activity
 unfoldable pub frameAfter : Device → Header → List ℕ → Arrival → Device
-frameAfter d h bytes what = pick (reachesBuffer what) (heard d h bytes) (busActivity d)
+frameAfter d h bytes what = pick (reachesBuffer what) (heard d h bytes what) (busActivity d)
 
 -- "Monitor mode moves neither."
 unfoldable pub countedReceiveError : Counters → ℕ → Counters
@@ -74,11 +73,8 @@ errorSent d kind counted =
     stopped (with-counters (busError d (errBit kind)) (countedTransmitError (d .counters) (d .acting) counted))
 
 -- in loopback the own message arrives, with the time tag that the history gets too
-unfoldable pub completed : Device → Device
-completed d =
-    pick (eqb (d .acting) loopback)
-    (sent (arrived d (headerIn (d .buffer .bytes)) (dataIn (d .buffer .bytes))))
-    (sent d)
+unfoldable pub echoed : Device → Arrival → Device
+echoed d what = sent (arrived d (headerIn (d .buffer .bytes)) (dataIn (d .buffer .bytes)) what)
 
 unfoldable pub recessiveMet : Device → Device
 recessiveMet d = with-counters d (elevenRecessive (d .counters) (bor d))
@@ -90,18 +86,36 @@ ticked d count = with-time d ((d .time + count) % 65536)
 unfoldable pub pinSet : Device → Bool → Device
 pinSet d level = with-txenpin d level
 
-unfoldable pub after : Device → Event → List ℕ → Device
-after d (GoodFrame h acknowledged given) bytes = frameAfter d h bytes (reason d h acknowledged bytes)
-after d (ReceiveError kind) bytes = errorReceived d kind
-after d DominantBit bytes = dominantMet d
-after d (TransmitError kind counted) bytes = errorSent d kind counted
-after d Begun bytes = begun d
-after d Completed bytes = completed d
-after d ArbitrationLost bytes = stopped d
-after d ElevenRecessive bytes = recessiveMet d
-after d BusQuiet bytes = busQuiet d
-after d BusActivity bytes = busActivity d
-after d (Ticks count) bytes = ticked d count
-after d (TxenPin level) bytes = pinSet d level
-after d MasterReset bytes = reset d
-after d Unknown bytes = d
+-- an event whose answer is an arrival: a good frame, or in loopback a completion
+unfoldable pub arrival : Device → Event → List ℕ → Arrival → Device
+arrival d (GoodFrame h acknowledged given) bytes what = frameAfter d h bytes what
+arrival d Completed bytes what = echoed d what
+arrival d (ReceiveError kind) bytes what = d
+arrival d DominantBit bytes what = d
+arrival d (TransmitError kind counted) bytes what = d
+arrival d Begun bytes what = d
+arrival d ArbitrationLost bytes what = d
+arrival d ElevenRecessive bytes what = d
+arrival d BusQuiet bytes what = d
+arrival d BusActivity bytes what = d
+arrival d (Ticks count) bytes what = d
+arrival d (TxenPin level) bytes what = d
+arrival d MasterReset bytes what = d
+arrival d Unknown bytes what = d
+
+-- an event that is done; a good frame's answer is an arrival
+unfoldable pub after : Device → Event → Device
+after d (GoodFrame h acknowledged given) = d
+after d (ReceiveError kind) = errorReceived d kind
+after d DominantBit = dominantMet d
+after d (TransmitError kind counted) = errorSent d kind counted
+after d Begun = begun d
+after d Completed = sent d
+after d ArbitrationLost = stopped d
+after d ElevenRecessive = recessiveMet d
+after d BusQuiet = busQuiet d
+after d BusActivity = busActivity d
+after d (Ticks count) = ticked d count
+after d (TxenPin level) = pinSet d level
+after d MasterReset = reset d
+after d Unknown = d

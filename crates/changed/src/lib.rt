@@ -2,9 +2,8 @@
 ghost use mathlib.Core.Path.{_≡_};
 ghost use Prim.Native.Nat.{_+_, _%_};
 ghost use Rattle.changed.specs.Changed.{errBit, countedFrame, heard, reachesBuffer, frameAfter, countedReceiveError, errorReceived};
-ghost use Rattle.changed.specs.Changed.{dominantMet, countedTransmitError, errorSent, completed, recessiveMet, ticked, pinSet, after};
+ghost use Rattle.changed.specs.Changed.{dominantMet, countedTransmitError, errorSent, echoed, recessiveMet, ticked, pinSet, arrival, after};
 use chip::Device;
-use chip::LOOPBACK;
 use chip::MONITOR;
 use chip::NORMAL;
 use counters::Counters;
@@ -37,12 +36,12 @@ fn counted_frame(c: Counters, acting: u8) -> Counters
 }
 
 // A frame that the mode takes, from the bus.
-fn heard(d: Device, h: Header, payload: [u8; 8]) -> Device
-    ensures { λ r. ⌜ r ≡ heard d h payload ⌝ }
+fn heard(d: Device, h: Header, payload: [u8; 8], what: Arrival) -> Device
+    ensures { λ r. ⌜ r ≡ heard d h payload what ⌝ }
 {
     let pair = d.counters;
     let c = counted_frame(pair, d.acting);
-    let mut e = receive::arrived(d, h, payload);
+    let mut e = receive::arrived(d, h, payload, what);
     e.counters = c;
     e
 }
@@ -66,7 +65,7 @@ fn frame_after(d: Device, h: Header, payload: [u8; 8], what: Arrival) -> Device
     ensures { λ r. ⌜ r ≡ frameAfter d h payload what ⌝ }
 {
     if reaches_buffer(what) {
-        heard(d, h, payload)
+        heard(d, h, payload, what)
     } else {
         modes::bus_activity(d)
     }
@@ -131,21 +130,16 @@ fn error_sent(d: Device, kind: ErrorKind, counted: bool) -> Device
     transmit::stopped(e)
 }
 
-// A completion: in loopback the message arrives first, then it is sent.
-fn completed(d: Device) -> Device
-    ensures { λ r. ⌜ r ≡ completed d ⌝ }
+// A completion in loopback: the message arrives first, then it is sent.
+fn echoed(d: Device, what: Arrival) -> Device
+    ensures { λ r. ⌜ r ≡ echoed d what ⌝ }
 {
-    let acting = d.acting;
-    if acting == LOOPBACK {
-        let m = d.buffer;
-        let bytes = m.bytes;
-        let h = frame::header_in(bytes);
-        let payload = frame::data_in(bytes);
-        let e = receive::arrived(d, h, payload);
-        transmit::sent(e)
-    } else {
-        transmit::sent(d)
-    }
+    let m = d.buffer;
+    let bytes = m.bytes;
+    let h = frame::header_in(bytes);
+    let payload = frame::data_in(bytes);
+    let e = receive::arrived(d, h, payload, what);
+    transmit::sent(e)
 }
 
 fn recessive_met(d: Device) -> Device
@@ -182,19 +176,38 @@ fn pin_set(d: Device, level: bool) -> Device
     e
 }
 
-pub fn after(d: Device, e: Event, payload: [u8; 8]) -> Device
-    ensures { λ r. ⌜ r ≡ after d e payload ⌝ }
+// An event that brought a frame, by what became of it.
+pub fn arrival(d: Device, e: Event, payload: [u8; 8], what: Arrival) -> Device
+    ensures { λ r. ⌜ r ≡ arrival d e payload what ⌝ }
 {
     match e {
-        Event::GoodFrame(h, acknowledged, _) => {
-            let what = judged::reason(d, h, acknowledged, payload);
-            frame_after(d, h, payload, what)
-        }
+        Event::GoodFrame(h, _, _) => frame_after(d, h, payload, what),
+        Event::Completed => echoed(d, what),
+        Event::ReceiveError(_) => d,
+        Event::DominantBit => d,
+        Event::TransmitError(_, _) => d,
+        Event::Begun => d,
+        Event::ArbitrationLost => d,
+        Event::ElevenRecessive => d,
+        Event::BusQuiet => d,
+        Event::BusActivity => d,
+        Event::Ticks(_) => d,
+        Event::TxenPin(_) => d,
+        Event::MasterReset => d,
+        Event::Unknown => d,
+    }
+}
+
+// An event that brought none.
+pub fn after(d: Device, e: Event) -> Device
+    ensures { λ r. ⌜ r ≡ after d e ⌝ }
+{
+    match e {
         Event::ReceiveError(kind) => error_received(d, kind),
         Event::DominantBit => dominant_met(d),
         Event::TransmitError(kind, counted) => error_sent(d, kind, counted),
         Event::Begun => transmit::begun(d),
-        Event::Completed => completed(d),
+        Event::Completed => transmit::sent(d),
         Event::ArbitrationLost => transmit::stopped(d),
         Event::ElevenRecessive => recessive_met(d),
         Event::BusQuiet => modes::bus_quiet(d),
@@ -202,6 +215,7 @@ pub fn after(d: Device, e: Event, payload: [u8; 8]) -> Device
         Event::Ticks(count) => ticked(d, count),
         Event::TxenPin(level) => pin_set(d, level),
         Event::MasterReset => flags::reset(d),
+        Event::GoodFrame(_, _, _) => d,
         Event::Unknown => d,
     }
 }

@@ -66,14 +66,14 @@ abbrev pub message : Device → Header → List ℕ → Message
 message d h bytes = record { bytes = received h bytes (d .time) (filhit (hit d h bytes)) }
 
 -- "A4, A5 and Queued put the frame" into the temporary buffer; RXTMP says so. Queued alone puts it into the FIFO.
-unfoldable pub arrived : Device → Header → List ℕ → Device
-arrived d h bytes =
+unfoldable pub arrived : Device → Header → List ℕ → Arrival → Device
+arrived d h bytes what =
     raised
     (raised
     (raised
     (with-rx
     (with-temp (with-regs d (with-filhit (d .regs) (filhit (hit d h bytes)))) (message d h bytes))
-    (queueAfter (d .rx) (message d h bytes) (isQueued (reason d h bytes))))
+    (queueAfter (d .rx) (message d h bytes) (isQueued what)))
     rxtmp)
-    (queuedFlag (isQueued (reason d h bytes))))
+    (queuedFlag (isQueued what)))
     (filterFlag (hit d h bytes))

@@ -122,11 +122,11 @@ fn queue_after(q: Fifo, m: Message, queued: bool) -> Fifo
 }
 
 // The device with the frame arrived: in the temporary buffer in any case, in the FIFO if it is queued.
-pub fn arrived(d: Device, h: Header, payload: [u8; 8]) -> Device
-    ensures { λ r. ⌜ r ≡ arrived d h payload ⌝ }
+pub fn arrived(d: Device, h: Header, payload: [u8; 8], what: Arrival) -> Device
+    ensures { λ r. ⌜ r ≡ arrived d h payload what ⌝ }
 {
     let found = hit(d, h, payload);
-    let queued = is_queued(answered(d, found));
+    let queued = is_queued(what);
     let filhit = filter::filhit(found);
     let bytes = frame::received(h, payload, d.time, filhit);
     let m = Message { bytes };

@@ -20,8 +20,8 @@ after-requires c κs = search needs
 enum-known-a-2 : tie.Need-enum-known-a-2
 enum-known-a-2 c = search needs
 
-after-requires-2 : tie.Need-after-requires-2
-after-requires-2 c κs = search needs
+arrival-requires : tie.Need-arrival-requires
+arrival-requires c κs = search needs
 
 returns : tie.Need-returns
 unfolding event
@@ -33,7 +33,7 @@ returns-2 c = rw (sym (c .before .before .before .answer .ensures) ∙ c .before
 
 returns-3 : tie.Need-returns-3
 unfolding event
-returns-3 c = rw (sym (c .before .before .before .before .answer .ensures) ∙ c .before .before .a2 .given .1, c .after2 .ensures)
+returns-3 c = rw (sym (c .before .before .before .before .answer .ensures) ∙ c .before .before .a2 .given .1, c .arrival .ensures)
 
 pub event-spec : {M : Type 1} → statement M
 event-spec =
@@ -44,7 +44,7 @@ event-spec =
     enum-told
     after-requires
     enum-known-a-2
-    after-requires-2
+    arrival-requires
     returns
     returns-2
     returns-3)

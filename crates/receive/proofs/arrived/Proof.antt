@@ -1,14 +1,11 @@
 -- `receive::arrived` meets its contract. Assumes nothing.
-use Rattle.receive.specs.Receive.{arrived, reason}
+use Rattle.receive.specs.Receive.{arrived}
 use borrow.Author.Needs.{needs}
 use Rattle.receive.proofs.arrived.Statement.{statement}
 use Rattle.receive.proofs.arrived.Tie as tie
 
 hit-requires : tie.Need-hit-requires
 hit-requires c κs = search needs
-
-answered-requires : tie.Need-answered-requires
-answered-requires c κs = search needs
 
 is-queued-requires : tie.Need-is-queued-requires
 is-queued-requires c κs = search needs
@@ -38,7 +35,7 @@ raised-requires-3 : tie.Need-raised-requires-3
 raised-requires-3 c κs = search needs
 
 returns : tie.Need-returns
-unfolding arrived reason
+unfolding arrived
 returns c =
     rw (
       c .raised3 .ensures,
@@ -50,8 +47,7 @@ returns c =
       c .before .before .before .before .before .before .before .before .received .ensures,
       c .before .before .before .before .before .before .before .before .before .filhit .ensures,
       c .before .before .before .before .before .before .before .before .before .before .is-queued .ensures,
-      c .before .before .before .before .before .before .before .before .before .before .before .answered .ensures,
-      c .before .before .before .before .before .before .before .before .before .before .before .before .hit .ensures,
+      c .before .before .before .before .before .before .before .before .before .before .before .hit .ensures,
     )
 
 pub arrived-spec : {M : Type 1} → statement M
@@ -59,7 +55,6 @@ arrived-spec =
     tie.close
     (tie.spec
     hit-requires
-    answered-requires
     is-queued-requires
     filhit-requires
     received-requires
