@@ -1,5 +1,5 @@
 /* A plain C model of the HI-3110's register face: what the host sees by SPI and what the bus does to it.
- * Names are the datasheet's. The state is private to hi3110.c; it stands here so that a caller can hold it. */
+ * Names are the datasheet's. The state is private to the model; it stands here so that a caller can hold it. */
 #ifndef HI3110_H
 #define HI3110_H
 
