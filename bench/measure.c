@@ -8,6 +8,7 @@
 #include <string.h>
 #include <sys/resource.h>
 #include <sys/wait.h>
+#include <time.h>
 #include <unistd.h>
 
 enum { RUNS = 7, COMPARED_ROUNDS = 3, COMPARED_SEEDS = 100 };
@@ -128,6 +129,29 @@ static uint32_t choose_rounds(const struct work *w, const char *plain)
     return rounds * (AIM / taken);
 }
 
+/* Nanoseconds for `size` bytes copied out and in again: what a state by value costs, whatever is done with it. */
+static double copy_time(size_t size)
+{
+    enum { TIMES = 2000000 };
+    static char here[1000], there[1000];
+    double least = 0;
+    if (size > sizeof here)
+        size = sizeof here;
+    for (int run = 0; run < RUNS; run++) {
+        clock_t start = clock();
+        for (int i = 0; i < TIMES; i++) {
+            memmove(there, here, size);
+            __asm__ volatile("" : : "r"(here), "r"(there) : "memory"); /* no copy is left out */
+            memmove(here, there, size);
+            __asm__ volatile("" : : "r"(here), "r"(there) : "memory");
+        }
+        double taken = (double)(clock() - start) / CLOCKS_PER_SEC;
+        if (run == 0 || taken < least)
+            least = taken;
+    }
+    return least / TIMES * 1e9;
+}
+
 static void print_size(const char *plain, const char *proved_size)
 {
     char command[4096], size[32] = "?";
@@ -138,7 +162,7 @@ static void print_size(const char *plain, const char *proved_size)
     pclose(p);
     printf("state: plain %s bytes", size);
     if (proved_size != NULL)
-        printf(", proved %s bytes", proved_size);
+        printf(", proved %s bytes, which copied out and in take %.2f ns", proved_size, copy_time(atol(proved_size)));
     putchar('\n');
 }
 
