@@ -112,6 +112,8 @@ pub fn shows(d: Device, v: u8, k: u8) -> [u8; 16]
     ensures { λ r. ⌜ r ≡ shows d v k ⌝ }
 {
     let temp = d.temp;
+    let filters = d.filters;
+    let masks = d.masks;
     let rx = d.rx;
     let history = d.history;
     let time = d.time;
@@ -123,8 +125,8 @@ pub fn shows(d: Device, v: u8, k: u8) -> [u8; 16]
         verb::READ_MESSAGE => without_time(fifo::next(rx)),
         verb::READ_DATA_WITH_TIME => data_with_time(fifo::next(rx)),
         verb::READ_DATA => data_only(fifo::next(rx)),
-        verb::READ_FILTER => six(d.filters[place]),
-        verb::READ_MASK => six(d.masks[place]),
+        verb::READ_FILTER => six(filters[place]),
+        verb::READ_MASK => six(masks[place]),
         verb::READ_HISTORY => tag_and_time(fifo::next(history)),
         verb::READ_TIME => time_tag(time),
         _ => two(register(d, v), 0),

@@ -44,8 +44,8 @@ data-only-requires c κs = search needs
 mul-six : tie.Need-mul-six
 mul-six c = search needs
 
-element-copy-out-six : tie.Need-element-copy-out-six
-element-copy-out-six c = search needs
+array-copy-out-six : tie.Need-array-copy-out-six
+array-copy-out-six c = search needs
 
 six-requires : tie.Need-six-requires
 six-requires c κs = search needs
@@ -53,8 +53,8 @@ six-requires c κs = search needs
 mul-six-2 : tie.Need-mul-six-2
 mul-six-2 c = search needs
 
-element-copy-out-six-2 : tie.Need-element-copy-out-six-2
-element-copy-out-six-2 c = search needs
+array-copy-out-six-2 : tie.Need-array-copy-out-six-2
+array-copy-out-six-2 c = search needs
 
 six-requires-2 : tie.Need-six-requires-2
 six-requires-2 c κs = search needs
@@ -117,7 +117,7 @@ returns-10 c = rw (c .before .match .keys10) (c .time-tag .ensures)
 returns-11 : tie.Need-returns-11
 unfolding shows
 returns-11 c =
-    let v = c .before .before .before .before .before .before .args .v in
+    let v = c .before .before .before .before .before .before .before .before .args .v in
     let other = c .before .before .match .rest in
     rw (
       c .two .ensures,
@@ -150,10 +150,10 @@ shows-spec =
     next-requires-4
     data-only-requires
     mul-six
-    element-copy-out-six
+    array-copy-out-six
     six-requires
     mul-six-2
-    element-copy-out-six-2
+    array-copy-out-six-2
     six-requires-2
     next-requires-5
     tag-and-time-requires
