@@ -29,15 +29,7 @@ fn at(i: usize) -> Row
     requires { ⌜ i < 69 ⌝ }
     ensures { λ r. ⌜ r ≡ getD rows i noRow ⌝ }
 {
-    let r = table::ROWS[i];
-    Row {
-        command: r[0],
-        least: r[1],
-        most: r[2],
-        out: r[3],
-        verb: r[4],
-        index: r[5],
-    }
+    table::ROWS[i]
 }
 
 // The place of the command's row. It is looked up and not searched for: a search costs many times what a transfer does.
