@@ -18,30 +18,6 @@ fn count(given: usize) -> usize
     if n <= 3000 { n } else { 3000 }
 }
 
-fn transfer(o: Outcome, work: &[u8], results: &mut [u8], i: usize) -> Outcome
-    requires { ⌜ i < 3000 ⌝ }
-    requires { ⌜ i * 20 + 20 ≤ length (now work) ⌝ }
-    requires { ⌜ 51000 ≤ length (now results) ⌝ }
-{
-    let from = i * 20;
-    let past = from + 20;
-    let start = i * 17;
-    let end = start + 17;
-    records::transfer(o, &work[from..past], &mut results[start..end])
-}
-
-fn happens(o: Outcome, work: &[u8], results: &mut [u8], i: usize) -> Outcome
-    requires { ⌜ i < 3000 ⌝ }
-    requires { ⌜ i * 20 + 20 ≤ length (now work) ⌝ }
-    requires { ⌜ 51000 ≤ length (now results) ⌝ }
-{
-    let from = i * 20;
-    let past = from + 20;
-    let start = i * 17;
-    let end = start + 17;
-    records::happens(o, &work[from..past], &mut results[start..end])
-}
-
 // The list once. What a door gave is kept as it came, so that the device is copied nowhere but in the doors.
 fn round(d: Device, work: &[u8], results: &mut [u8]) -> Device
     requires { ⌜ 51000 ≤ length (now results) ⌝ }
@@ -53,11 +29,15 @@ fn round(d: Device, work: &[u8], results: &mut [u8]) -> Device
     };
     let mut i: usize = 0;
     while i < n {
-        if base::at(work, i * 20) == 0 {
-            o = transfer(o, work, results, i);
+        let from = i * 20;
+        let past = from + 20;
+        let start = i * 17;
+        let end = start + 17;
+        if base::at(work, from) == 0 {
+            o = records::transfer(o, &work[from..past], &mut results[start..end]);
             i += 1;
         } else {
-            o = happens(o, work, results, i);
+            o = records::happens(o, &work[from..past], &mut results[start..end]);
             i += 1;
         }
     }

@@ -18,11 +18,38 @@ count-requires c κs = search needs
 loop-holds : tie.Need-loop-holds Inv-loop μ-loop
 loop-holds c = search needs
 
-mul-at : tie.Need-mul-at Inv-loop μ-loop
-mul-at c = search needs
+mul-from : tie.Need-mul-from Inv-loop μ-loop
+mul-from c = search needs
+
+add-past : tie.Need-add-past Inv-loop μ-loop
+add-past c = search needs
+
+mul-start : tie.Need-mul-start Inv-loop μ-loop
+mul-start c = search needs
+
+add-end : tie.Need-add-end Inv-loop μ-loop
+add-end c = search needs
 
 at-requires : tie.Need-at-requires Inv-loop μ-loop
 at-requires c κs = search needs
+
+sub-transfer : tie.Need-sub-transfer Inv-loop μ-loop
+sub-transfer c = search needs
+
+part-transfer-start : tie.Need-part-transfer-start Inv-loop μ-loop
+part-transfer-start c = search needs
+
+part-transfer-end : tie.Need-part-transfer-end Inv-loop μ-loop
+part-transfer-end c = search needs
+
+sub-transfer-2 : tie.Need-sub-transfer-2 Inv-loop μ-loop
+sub-transfer-2 c = search needs
+
+part-transfer-start-2 : tie.Need-part-transfer-start-2 Inv-loop μ-loop
+part-transfer-start-2 c = search needs
+
+part-transfer-end-2 : tie.Need-part-transfer-end-2 Inv-loop μ-loop
+part-transfer-end-2 c = search needs
 
 transfer-requires : tie.Need-transfer-requires Inv-loop μ-loop
 transfer-requires c κs = search needs
@@ -35,6 +62,24 @@ loop-less c = search needs
 
 loop-again : tie.Need-loop-again Inv-loop μ-loop
 loop-again c = search needs
+
+sub-happens : tie.Need-sub-happens Inv-loop μ-loop
+sub-happens c = search needs
+
+part-happens-start : tie.Need-part-happens-start Inv-loop μ-loop
+part-happens-start c = search needs
+
+part-happens-end : tie.Need-part-happens-end Inv-loop μ-loop
+part-happens-end c = search needs
+
+sub-happens-2 : tie.Need-sub-happens-2 Inv-loop μ-loop
+sub-happens-2 c = search needs
+
+part-happens-start-2 : tie.Need-part-happens-start-2 Inv-loop μ-loop
+part-happens-start-2 c = search needs
+
+part-happens-end-2 : tie.Need-part-happens-end-2 Inv-loop μ-loop
+part-happens-end-2 c = search needs
 
 happens-requires : tie.Need-happens-requires Inv-loop μ-loop
 happens-requires c κs = search needs
@@ -62,12 +107,27 @@ round-spec =
     μ-loop
     count-requires
     loop-holds
-    mul-at
+    mul-from
+    add-past
+    mul-start
+    add-end
     at-requires
+    sub-transfer
+    part-transfer-start
+    part-transfer-end
+    sub-transfer-2
+    part-transfer-start-2
+    part-transfer-end-2
     transfer-requires
     add-i
     loop-less
     loop-again
+    sub-happens
+    part-happens-start
+    part-happens-end
+    sub-happens-2
+    part-happens-start-2
+    part-happens-end-2
     happens-requires
     add-i-2
     loop-less-2
