@@ -11,9 +11,9 @@ use lib.Seq.{take-all, take-append-le, set-append-seam}
 use Rattle.base.specs.Pick.{pick}
 use Rattle.line.specs.declared.data.Data.{Data}
 use Rattle.line.specs.declared.words.Span.{Span}
-use Rattle.line.specs.Words.{wordsOf, first, Found}
+use Rattle.line.specs.Words.{wordsOf, Found}
 use Rattle.line.specs.Numbers.{valueOf, isByte}
-use Rattle.line.specs.Data.{areBytes, kept, filled, noData, dataOf, keepOf}
+use Rattle.line.specs.Data.{areBytes, filled, noData, dataOf, keepOf}
 
 -- what a loop over the words makes of the data so far
 abbrev pub gathered : Data → List (List ℕ) → Data

@@ -5,7 +5,6 @@ use mathlib.Core.List.{List, [], _∷_, map}
 use Prim.Native.String.{String}
 use Rattle.events.specs.declared.ErrorKind.the-variants.{Crc, Form}
 use Rattle.events.specs.declared.Event.the-variants.{GoodFrame, ReceiveError, TransmitError, ElevenRecessive, Ticks, TxenPin}
-use Rattle.line.specs.declared.Asked.{Asked}
 use Rattle.line.specs.declared.Asked.the-variants.{Nothing, Transfer, Happens, Pins, Unreadable}
 use Rattle.line.specs.declared.Expected.the-variants.{Request, Byte, Room, Identifier, StdOrExt, AckOrNoack, CountedOrExempt, EndOfLine}
 use Rattle.line.specs.Numbers.{digitOf, isNumber, valueOf, isByte}

@@ -1,6 +1,6 @@
 // The requests, one function for each word that is read.
 ghost use mathlib.Core.Path.{_≡_};
-ghost use Prim.Native.Nat.{_≤_, _<_, _%_, min};
+ghost use Prim.Native.Nat.{_≤_, _<_, min};
 ghost use lib.ListN.{length, take, drop};
 ghost use Rattle.line.specs.Words.{wordsOf, same};
 ghost use Rattle.line.specs.Numbers.{valueOf, most};

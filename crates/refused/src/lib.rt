@@ -1,6 +1,5 @@
 // Whether a transfer is refused, and by which number: the checks in rising order, each a question of its own.
 ghost use mathlib.Core.Path.{_≡_};
-ghost use lib.ListN.{length};
 ghost use Rattle.refused.specs.Refused.{lengthFits, setsUp, outsideSetUp, findsFull, readsMessage, findsNone};
 ghost use Rattle.refused.specs.Refused.{refusal, rowJudged, judged};
 use chip::Device;
