@@ -29,10 +29,9 @@ pattern bytes = record {
 }
 
 -- "ERR bits 4 to 0 clear when read"; 000, INTF: "Reading this register will clear all bits"
-unfoldable pub registersAfter : Registers → ℕ → ℕ → Registers
-registersAfter r v value =
-    among v
-    ((readErr, with-errs r 0) ∷
+abbrev pub settings : Registers → ℕ → List (ℕ × Registers)
+settings r value =
+    (readErr, with-errs r 0) ∷
     (readIntf, with-intf r 0) ∷
     (writeCtrl1, with-ctrl1 r value) ∷
     (writeBtr0, with-btr0 r value) ∷
@@ -40,8 +39,10 @@ registersAfter r v value =
     (writeInte, with-inte r value) ∷
     (writeStatfe, with-statfe r value) ∷
     (writeGpine, with-gpine r value) ∷
-    [])
-    r
+    []
+
+unfoldable pub registersAfter : Registers → ℕ → ℕ → Registers
+registersAfter r v value = among v (settings r value) r
 
 unfoldable pub registerChanged : Device → ℕ → ℕ → Device
 registerChanged d v value = with-regs d (registersAfter (d .regs) v value)
@@ -81,10 +82,10 @@ recWritten d value = with-counters d (writeRec (d .counters) value)
 unfoldable pub tecWritten : Device → ℕ → Device
 tecWritten d value = with-counters d (writeTec (d .counters) value)
 
-unfoldable pub does : Device → ℕ → ℕ → List ℕ → Device
-does d v k bytes =
-    among v
-    ((readMessageWithTime, messageTaken d) ∷
+-- the commands that change more than one register, and what each does
+abbrev pub deeds : Device → ℕ → List ℕ → List (ℕ × Device)
+deeds d k bytes =
+    (readMessageWithTime, messageTaken d) ∷
     (readMessage, messageTaken d) ∷
     (readDataWithTime, messageTaken d) ∷
     (readData, messageTaken d) ∷
@@ -100,5 +101,7 @@ does d v k bytes =
     (writesTec, tecWritten d (byte bytes 2)) ∷
     (writeFilter, filterWritten d k (pattern bytes)) ∷
     (writeMask, maskWritten d k (pattern bytes)) ∷
-    [])
-    (registerChanged d v (byte bytes 2))
+    []
+
+unfoldable pub does : Device → ℕ → ℕ → List ℕ → Device
+does d v k bytes = among v (deeds d k bytes) (registerChanged d v (byte bytes 2))

@@ -1,4 +1,3 @@
 pub mod Data
 pub mod Parts
 pub mod ReadBack
-pub mod Worked

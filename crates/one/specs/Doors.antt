@@ -1,0 +1,82 @@
+-- One result for each public function of receive, refused, shown, done, host, judged, changed and bus. `Frames` says how to read
+-- a line.
+use mathlib.Core.Path.{refl}
+use lib.ListN.{length}
+use base.Stored.{codedList, codedℕ}
+use denote.Ref.{now}
+use Rattle.receive.specs.Receive
+use Rattle.refused.specs.Refused
+use Rattle.shown.specs.Shown
+use Rattle.done.specs.Done
+use Rattle.host.specs.Transfer
+use Rattle.judged.specs.Judged
+use Rattle.changed.specs.Changed
+use Rattle.bus.specs.Event
+use Rattle.bus.specs.Pins
+use Rattle.receive.proofs as receive
+use Rattle.refused.proofs as refused
+use Rattle.shown.proofs as shown
+use Rattle.done.proofs as done
+use Rattle.host.proofs as host
+use Rattle.judged.proofs as judged
+use Rattle.changed.proofs as changed
+use Rattle.bus.proofs as bus
+use Rattle.one.specs.Law.{OneResult}
+use Rattle.one.specs.Shapes.{result, result-and-content}
+
+module _ (M : Type 1) where
+  -- ---- receive
+  pub receive·hit : OneResult M receive.hit.ended receive.hit.spec
+  receive·hit = result receive.hit.clauses (λ _. Receive.hit) refl
+
+  pub receive·reason : OneResult M receive.reason.ended receive.reason.spec
+  receive·reason = result receive.reason.clauses (λ _. Receive.reason) refl
+
+  pub receive·arrived : OneResult M receive.arrived.ended receive.arrived.spec
+  receive·arrived = result receive.arrived.clauses (λ _. Receive.arrived) refl
+
+  -- ---- refused
+  pub refused·judge : OneResult M refused.judge.ended refused.judge.spec
+  refused·judge = result refused.judge.clauses (λ _ d bytes room. Refused.judged d (now bytes) room) refl
+
+  -- ---- shown
+  pub shown·shows : OneResult M shown.shows.ended shown.shows.spec
+  shown·shows = result shown.shows.clauses (λ _. Shown.shows) refl
+
+  -- ---- done
+  pub done·does : OneResult M done.does.ended done.does.spec
+  done·does = result done.does.clauses (λ _ d v k bytes. Done.does d v k (now bytes)) refl
+
+  -- ---- host
+  pub host·transfer : OneResult M host.transfer.ended host.transfer.spec
+  host·transfer =
+      result-and-content host.transfer.clauses (codedList codedℕ) (λ _ w. w .1 .1 .0) (λ _ v. (tt, (tt, (v, tt))))
+      (λ _ d bytes reply. Transfer.transfer d (now bytes) (length (now reply)))
+      (λ _ d bytes reply. Transfer.replyAfter d (now bytes) (now reply)) refl
+
+  -- ---- judged
+  pub judged·impossible : OneResult M judged.impossible.ended judged.impossible.spec
+  judged·impossible = result judged.impossible.clauses (λ _. Judged.impossible) refl
+
+  pub judged·reason : OneResult M judged.reason.ended judged.reason.spec
+  judged·reason = result judged.reason.clauses (λ _. Judged.reason) refl
+
+  pub judged·said : OneResult M judged.said.ended judged.said.spec
+  judged·said = result judged.said.clauses (λ _. Judged.said) refl
+
+  -- ---- changed
+  pub changed·arrival : OneResult M changed.arrival.ended changed.arrival.spec
+  changed·arrival = result changed.arrival.clauses (λ _. Changed.arrival) refl
+
+  pub changed·after : OneResult M changed.after.ended changed.after.spec
+  changed·after = result changed.after.clauses (λ _. Changed.after) refl
+
+  -- ---- bus
+  pub bus·answer : OneResult M bus.answer.ended bus.answer.spec
+  bus·answer = result bus.answer.clauses (λ _. Event.answer) refl
+
+  pub bus·event : OneResult M bus.event.ended bus.event.spec
+  bus·event = result bus.event.clauses (λ _. Event.event) refl
+
+  pub bus·pins : OneResult M bus.pins.ended bus.pins.spec
+  bus·pins = result bus.pins.clauses (λ _. Pins.pins) refl

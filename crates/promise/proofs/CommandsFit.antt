@@ -1,0 +1,107 @@
+-- Every command keeps a device in its ranges. Assumes nothing.
+use mathlib.Core.Path.{_≡_, refl, sym}
+use mathlib.Core.Bool.{true}
+use mathlib.Core.List.{List}
+use Prim.Native.Nat.{ℕ}
+use borrow.Author.Tests.{eqb-true}
+use lib.Dec.{eqb, leb, ltb}
+use lib.ListN.{length}
+use Rattle.base.specs.Bit.{byte, isSet}
+use Rattle.counters.specs.Rules.{writeRec, writeTec}
+use Rattle.fifo.specs.declared.Message.{Message}
+use Rattle.fifo.specs.Queue.{empty, put}
+use Rattle.filter.specs.Lowest.{filhit}
+use Rattle.chip.specs.declared.Device.{Device}
+use Rattle.chip.specs.declared.Registers.{Registers}
+use Rattle.chip.specs.Parts.{with-tx}
+use Rattle.chip.specs.State.{fresh, modeOf, sleep, idle, first-in-fifo, alone}
+use Rattle.flags.specs.Flags.{raised}
+use Rattle.flags.specs.Reset.{reset}
+use Rattle.transmit.specs.Transmit.{aborted, cleared, leftAlone, stopped}
+use Rattle.modes.specs.Modes.{changed, writeCtrl0}
+use Rattle.done.specs.Done.{settings, registersAfter, registerChanged, messageTaken, entryTaken, receiveCleared, timeReset, messageWritten}
+use Rattle.done.specs.Done.{filterWritten, maskWritten, recWritten, tecWritten, deeds, does}
+use Rattle.promise.proofs.Steps.{keeps}
+use Rattle.promise.proofs.Among.{_and_, among-keeps}
+use Rattle.promise.proofs.Choices.{pick-under}
+use Rattle.promise.proofs.Ranges.{Ranges, InRange, empty-fits, put-fits, take-fits}
+use Rattle.promise.proofs.Fits.{Grouped, grows, put-grows, left-fits, acting-le, named-fits}
+
+module _ (d : Device) (h : InRange d) where
+  pub reset-in : InRange (reset d)
+  unfolding reset fresh modeOf
+  reset-in = (empty-fits, empty-fits, empty-fits, h .3, h .4, refl, refl, refl, refl)
+
+  pub stopped-in : InRange (stopped d)
+  unfolding stopped
+  stopped-in = (h .0, h .1, h .2, h .3, h .4, h .5, h .6, refl, h .8)
+
+  cleared-in : InRange (cleared d)
+  unfolding cleared leftAlone
+  cleared-in = (h .0, empty-fits, h .2, h .3, h .4, h .5, h .6, left-fits (eqb (d .sending) idle) (empty .count), h .8)
+
+  written-in : (m : Message) → InRange (with-tx d (put (d .tx) m))
+  written-in m = (
+    h .0,
+    put-fits (d .tx) m (h .1),
+    h .2,
+    h .3,
+    h .4,
+    h .5,
+    h .6,
+    grows (eqb (d .sending) first-in-fifo) (d .tx .count) (put (d .tx) m .count) (leb (d .sending) alone) (put-grows (ltb (d .tx .count) 8) (d .tx) m refl) (h .7),
+    h .8,
+  )
+
+  ctrl0-in : (v : ℕ) → InRange (writeCtrl0 d v)
+  unfolding writeCtrl0 changed raised stopped reset fresh modeOf
+  ctrl0-in v =
+      pick-under InRange (isSet 3 v) _ _
+      (λ resets. (empty-fits, empty-fits, empty-fits, h .3, h .4, refl, refl, refl, refl))
+      (λ keeps. pick-under InRange (eqb (modeOf v) sleep) _ _
+      (λ sleeps. (h .0, h .1, h .2, h .3, h .4, h .5, h .6, h .7, rw sleeps (acting-le (d .acting) (d .regs .ctrl0) (h .8))))
+      (λ wakes. pick-under InRange (eqb (modeOf v) (d .acting)) _ _
+      (λ same. (h .0, h .1, h .2, h .3, h .4, h .5, h .6, h .7, named-fits (d .acting) v wakes (sym (eqb-true (modeOf v) (d .acting) same))))
+      (λ new. (h .0, h .1, h .2, h .3, h .4, h .5, h .6, refl, named-fits (modeOf v) v wakes refl))))
+
+  register-in : (v value : ℕ) → InRange (registerChanged d v value)
+  unfolding registerChanged registersAfter
+  register-in v value =
+      among-keeps
+      (λ v (r : Registers). Ranges (d .rx) (d .tx) (d .history) (d .counters .groups) (r .errs) (r .mtag) (r .filhit) (d .sending) (d .acting) (r .ctrl0))
+      v (settings (d .regs) value) (d .regs)
+      ((h .0, h .1, h .2, h .3, refl, h .5, h .6, h .7, h .8) and h and h and h and h and h and h and h and tt)
+      (λ out. h)
+
+  tec-groups : (value : ℕ) → leb (writeTec (d .counters) value .groups) 128 ≡ true
+  unfolding writeTec
+  tec-groups value = pick-under Grouped (d .counters .busoff) _ _ (λ off. h .3) (λ on. h .3)
+
+  message-in : (bytes : List ℕ) → InRange (messageWritten d bytes)
+  unfolding messageWritten
+  message-in bytes = pick-under InRange (eqb (length bytes) 0) _ _ (λ none. h) (λ some. written-in _)
+
+  -- every command
+  pub does-in : (v k : ℕ) (bytes : List ℕ) → InRange (does d v k bytes)
+  unfolding does messageTaken entryTaken aborted stopped timeReset receiveCleared recWritten tecWritten writeRec filterWritten maskWritten
+  does-in v k bytes =
+      let taken : InRange (messageTaken d) = (take-fits (d .rx) (h .0), h .1, h .2, h .3, h .4, h .5, h .6, h .7, h .8) in
+      among-keeps (λ v e. InRange e) v (deeds d k bytes) (registerChanged d v (byte bytes 2))
+      (taken
+      and taken
+      and taken
+      and taken
+      and (h .0, h .1, take-fits (d .history) (h .2), h .3, h .4, h .5, h .6, h .7, h .8)
+      and stopped-in
+      and cleared-in
+      and reset-in
+      and h
+      and (empty-fits, h .1, h .2, h .3, h .4, h .5, h .6, h .7, h .8)
+      and message-in bytes
+      and ctrl0-in (byte bytes 2)
+      and h
+      and (h .0, h .1, h .2, tec-groups (byte bytes 2), h .4, h .5, h .6, h .7, h .8)
+      and h
+      and h
+      and tt)
+      (λ out. register-in v (byte bytes 2))

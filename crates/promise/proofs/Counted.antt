@@ -1,0 +1,108 @@
+-- REC, TEC, bus off and its groups along a sequence. Assumes nothing.
+use mathlib.Core.Path.{_≡_, refl, ap, _∙_}
+use mathlib.Core.Bool.{Bool, true, false, not, _&&_}
+use mathlib.Core.List.{List}
+use Prim.Native.Nat.{ℕ}
+use lib.Dec.{eqb}
+use Rattle.base.specs.Bit.{byte}
+use Rattle.base.specs.Pick.{pick}
+use Rattle.counters.specs.Rules.{zeroed, goodFrame, transmitError, writeRec, writeTec}
+use Rattle.frame.specs.declared.Header.{Header}
+use Rattle.chip.specs.declared.Device.{Device}
+use Rattle.chip.specs.State.{fresh, normal, monitor, bor}
+use Rattle.commands.specs.Verbs.{writeRec as writesRec, writeTec as writesTec}
+use Rattle.flags.specs.Flags.{raised, busError}
+use Rattle.flags.specs.Reset.{reset}
+use Rattle.transmit.specs.Transmit.{stopped, begun, sent, countedCompletion}
+use Rattle.receive.specs.declared.Arrival.{Arrival}
+use Rattle.receive.specs.Receive.{arrived}
+use Rattle.events.specs.declared.Event.{Event}
+use Rattle.events.specs.declared.Event.the-variants.{GoodFrame, ReceiveError, DominantBit, TransmitError, Begun, Completed}
+use Rattle.events.specs.declared.Event.the-variants.{ArbitrationLost, ElevenRecessive, BusQuiet, BusActivity, Ticks, TxenPin}
+use Rattle.events.specs.declared.Event.the-variants.{MasterReset, Unknown}
+use Rattle.judged.specs.declared.Answer.the-variants.{Done}
+use Rattle.changed.specs.Changed.{after, reachesBuffer, frameAfter, heard, countedFrame, echoed, errorReceived, countedReceiveError}
+use Rattle.changed.specs.Changed.{dominantMet, errorSent, countedTransmitError, recessiveMet, ticked, pinSet}
+use Rattle.promise.specs.Promises.{CountersAreTheRulesSum}
+use Rattle.promise.specs.Sequence.{Input, spi, wire, answered, Step, shipped as step}
+use Rattle.promise.specs.Sums.{counted, countedEvent}
+use Rattle.promise.proofs.Among.{_and_}
+use Rattle.promise.proofs.Choices.{pick-part}
+use Rattle.promise.proofs.Steps.{keeps}
+use Rattle.promise.proofs.Parts.{Watched, by-command}
+use Rattle.promise.proofs.EventKinds.{quiet-unmoved, activity-unmoved, by-happening}
+
+-- two questions in turn are one
+frame-pick : {A : Type 0} (taken normally : Bool) (x y : A) → pick taken (pick normally x y) y ≡ pick (normally && taken) x y
+frame-pick true true x y = refl
+frame-pick true false x y = refl
+frame-pick false true x y = refl
+frame-pick false false x y = refl
+
+error-pick : {A : Type 0} (counts monitors : Bool) (x y : A) → pick counts (pick monitors y x) y ≡ pick (counts && not monitors) x y
+error-pick true true x y = refl
+error-pick true false x y = refl
+error-pick false monitors x y = refl
+
+module _ (d : Device) where
+  abbrev Counts : Input → Step → Type 0
+  Counts i s = s .device .counters ≡ counted (d .acting) (bor d) (d .counters) i (s .given)
+
+  on-spi : (bytes buffer : List ℕ) → Counts (spi bytes buffer) (step d (spi bytes buffer))
+  on-spi bytes buffer =
+      by-command
+      (λ ok asked (w : Watched). w .counters ≡ pick ok
+      (pick (asked writesRec) (writeRec (d .counters) (byte bytes 2))
+      (pick (asked writesTec) (writeTec (d .counters) (byte bytes 2))
+      (d .counters)))
+      (d .counters))
+      d bytes buffer
+      refl
+      (refl and refl and refl and refl and refl and refl and refl and tt)
+      (λ v none. rw (none writesRec refl, none writesTec refl))
+
+  after-counters : (e : Event) → after d e .counters ≡ countedEvent (d .acting) (bor d) (d .counters) e (answered Done)
+  unfolding after errorReceived countedReceiveError busError raised dominantMet errorSent countedTransmitError stopped begun
+      sent countedCompletion recessiveMet ticked pinSet reset
+  after-counters (GoodFrame h acknowledged n) = refl
+  after-counters (ReceiveError kind) = refl
+  after-counters DominantBit = pick-part (λ (e : Device). e .counters) (eqb (d .acting) monitor) _ _
+  after-counters (TransmitError kind counts) = error-pick counts (eqb (d .acting) monitor) (transmitError (d .counters)) (d .counters)
+  after-counters Begun = refl
+  after-counters Completed = refl
+  after-counters ArbitrationLost = refl
+  after-counters ElevenRecessive = refl
+  after-counters BusQuiet = ap (λ x. x .1) (quiet-unmoved d)
+  after-counters BusActivity = ap (λ x. x .1) (activity-unmoved d)
+  after-counters (Ticks count) = refl
+  after-counters (TxenPin level) = refl
+  after-counters MasterReset = refl
+  after-counters Unknown = refl
+
+  frame-counters : (h : Header) (payload : List ℕ) (what : Arrival)
+      → frameAfter d h payload what .counters ≡ pick (eqb (d .acting) normal && reachesBuffer what) (goodFrame (d .counters)) (d .counters)
+  unfolding frameAfter heard countedFrame
+  frame-counters h payload what =
+      pick-part (λ (e : Device). e .counters) (reachesBuffer what) _ _
+      ∙ ap (λ c. pick (reachesBuffer what) (pick (eqb (d .acting) normal) (goodFrame (d .counters)) (d .counters)) c) (ap (λ x. x .1) (activity-unmoved d))
+      ∙ frame-pick (reachesBuffer what) (eqb (d .acting) normal) (goodFrame (d .counters)) (d .counters)
+
+  on-wire : (e : Event) (payload : List ℕ) → Counts (wire e payload) (step d (wire e payload))
+  unfolding echoed sent countedCompletion arrived raised
+  on-wire e payload =
+      by-happening (λ e ok given (after : Device). after .counters ≡ pick ok (countedEvent (d .acting) (bor d) (d .counters) e given) (d .counters)) d payload
+      (λ e n. refl)
+      (λ h acknowledged n what possible. frame-counters h payload what)
+      (λ what possible back taken. refl)
+      (λ e possible. after-counters e) e
+
+  on : (i : Input) → Counts i (step d i)
+  on (spi bytes buffer) = on-spi bytes buffer
+  on (wire e payload) = on-wire e payload
+
+pub counted-sum : CountersAreTheRulesSum
+unfolding fresh
+counted-sum is =
+    keeps (λ d c i. counted (d .acting) (bor d) c i (step d i .given)) (λ d c. d .counters ≡ c)
+    (λ d c i same. on d i ∙ ap (λ c. counted (d .acting) (bor d) c i (step d i .given)) same)
+    fresh zeroed is refl

@@ -1,0 +1,119 @@
+-- What an event does to INTF. Assumes nothing.
+use mathlib.Core.Path.{_≡_, refl, sym, _∙_}
+use mathlib.Core.Bool.{Bool, true, false, not, _&&_}
+use mathlib.Core.List.{List, [], _∷_, _++_}
+use Prim.Native.Nat.{ℕ}
+use borrow.Author.Tests.{not-true, not-false}
+use lib.Bits.{bitOr}
+use lib.Dec.{eqb}
+use Rattle.base.specs.Pick.{pick}
+use Rattle.base.proofs.Booleans.{and-left, and-right}
+use Rattle.frame.specs.declared.Header.{Header}
+use Rattle.frame.specs.Received.{headerIn, dataIn}
+use Rattle.chip.specs.declared.Device.{Device}
+use Rattle.chip.specs.State.{fresh, modeOf, sleep, monitor, loopback, wakeup}
+use Rattle.flags.specs.Flags.{raised, busError, rxtmp, rxfifo, buserr, txcplt}
+use Rattle.flags.specs.Reset.{reset}
+use Rattle.transmit.specs.Transmit.{stopped, begun, sent}
+use Rattle.modes.specs.Modes.{changed, canSleep, busQuiet, busActivity}
+use Rattle.receive.specs.declared.Arrival.{Arrival}
+use Rattle.receive.specs.Receive.{arrived, hit, isQueued}
+use Rattle.events.specs.declared.Event.{Event}
+use Rattle.events.specs.declared.Event.the-variants.{GoodFrame, ReceiveError, DominantBit, TransmitError, Begun, Completed}
+use Rattle.events.specs.declared.Event.the-variants.{ArbitrationLost, ElevenRecessive, BusQuiet, BusActivity, Ticks, TxenPin}
+use Rattle.events.specs.declared.Event.the-variants.{MasterReset, Unknown}
+use Rattle.judged.specs.declared.Answer.the-variants.{Done, Arrived}
+use Rattle.judged.specs.Judged.{impossible, impossibleFrame, runs}
+use Rattle.changed.specs.Changed.{after, reachesBuffer, frameAfter, heard, echoed, errorReceived, dominantMet, errorSent, recessiveMet, ticked, pinSet}
+use Rattle.promise.specs.Meaning.{means}
+use Rattle.promise.specs.Sequence.{wire, Given, answered, shipped as step}
+use Rattle.promise.specs.Sums.{done}
+use Rattle.promise.specs.Interrupts.{filterFlags, frameHit, givenFlags, ownFlags, modeFlags, wakeFlags, isClearing, together}
+use Rattle.promise.proofs.Choices.{pick-keeps, pick-under}
+use Rattle.promise.proofs.EventKinds.{by-happening}
+use Rattle.promise.proofs.Rising.{both-stay, sleeps, wakes, frame-rises}
+
+module _ (d : Device) where
+  -- these flags rise, and then those of the mode
+  abbrev Rises : List ℕ → Device → Type 0
+  Rises flags e = e .regs .intf ≡ together (d .regs .intf) (flags ++ (modeFlags (d .acting) (e .acting) ++ wakeFlags (d .acting) (e .acting)))
+
+  stays : (x : ℕ) → x ≡ together x (modeFlags (d .acting) (d .acting) ++ wakeFlags (d .acting) (d .acting))
+  stays x = sym (both-stay x (d .acting))
+
+  awake : canSleep d ≡ true → eqb (d .acting) sleep ≡ false
+  unfolding canSleep
+  awake can =
+      not-true (eqb (d .acting) sleep) (and-left (not (eqb (d .acting) sleep)) _ (and-right (eqb (modeOf (d .regs .ctrl0)) sleep) _ can))
+
+  quiet-rises : Rises [] (busQuiet d)
+  unfolding busQuiet changed raised
+  quiet-rises =
+      pick-under (Rises []) (canSleep d) _ d
+      (λ can. sym (sleeps (d .regs .intf) (d .acting) (awake can)))
+      (λ stay. stays (d .regs .intf))
+
+  activity-rises : Rises [] (busActivity d)
+  unfolding busActivity changed raised
+  activity-rises =
+      pick-under (Rises []) (eqb (d .acting) sleep && wakeup d) _ d
+      (λ wake. sym (wakes (d .regs .intf) (d .acting) (and-left (eqb (d .acting) sleep) (wakeup d) wake)))
+      (λ stay. stays (d .regs .intf))
+
+  module _ (payload : List ℕ) where
+    -- the flags of an event that is done
+    abbrev occurred : Event → Given → Device → List ℕ
+    occurred e given after = givenFlags (frameHit d (means d (wire e payload))) given
+        ++ (ownFlags e ++ (modeFlags (d .acting) (after .acting) ++ wakeFlags (d .acting) (after .acting)))
+
+    -- what an event does to INTF, if it is done or not
+    abbrev Wired : Event → Bool → Given → Device → Type 0
+    Wired e ok given after =
+        after .regs .intf ≡ pick (ok && isClearing (means d (wire e payload))) 0 (together (d .regs .intf) (pick ok (occurred e given after) []))
+
+    -- neither a frame nor a completion puts INTF down
+    frame-clears : (h : Header) (acknowledged : Bool) (n : ℕ) → isClearing (means d (wire (GoodFrame h acknowledged n) payload)) ≡ false
+    frame-clears h acknowledged n = pick-keeps (λ m. isClearing m ≡ false) (impossibleFrame h n) _ _ refl refl
+
+    sent-clears : isClearing (means d (wire Completed payload)) ≡ false
+    sent-clears = pick-keeps (λ m. isClearing m ≡ false) (runs d && eqb (d .acting) loopback) _ _ refl refl
+
+    after-rises : (e : Event) → Wired e true (answered Done) (after d e)
+    unfolding after errorReceived busError raised dominantMet errorSent stopped begun sent recessiveMet ticked pinSet reset fresh
+    after-rises (GoodFrame h acknowledged n) = rw (frame-clears h acknowledged n) (stays (d .regs .intf))
+    after-rises (ReceiveError kind) = stays (bitOr (d .regs .intf) buserr)
+    after-rises DominantBit = pick-keeps (Rises []) (eqb (d .acting) monitor) d _ (stays (d .regs .intf)) (stays (d .regs .intf))
+    after-rises (TransmitError kind counts) = stays (bitOr (d .regs .intf) buserr)
+    after-rises Begun = stays (d .regs .intf)
+    after-rises Completed = rw sent-clears (stays (bitOr (d .regs .intf) txcplt))
+    after-rises ArbitrationLost = stays (d .regs .intf)
+    after-rises ElevenRecessive = stays (d .regs .intf)
+    after-rises BusQuiet = quiet-rises
+    after-rises BusActivity = activity-rises
+    after-rises (Ticks count) = stays (d .regs .intf)
+    after-rises (TxenPin level) = stays (d .regs .intf)
+    after-rises MasterReset = refl
+    after-rises Unknown = stays (d .regs .intf)
+
+    -- a frame that reaches the buffer, or activity on the bus
+    frame-cases : (h : Header) (what : Arrival) (taken : Bool)
+        → Rises (pick taken (rxtmp ∷ (pick (isQueued what) (rxfifo ∷ []) [] ++ filterFlags (hit d h payload))) [])
+        (pick taken (heard d h payload what) (busActivity d))
+    unfolding heard arrived raised
+    frame-cases h what true = stays _ ∙ sym (frame-rises (d .regs .intf) (isQueued what) (hit d h payload) _)
+    frame-cases h what false = activity-rises
+
+    framed-rises : (h : Header) (acknowledged : Bool) (n : ℕ) (what : Arrival) → impossible d (GoodFrame h acknowledged n) ≡ false
+        → Wired (GoodFrame h acknowledged n) true (answered (Arrived what)) (frameAfter d h payload what)
+    unfolding frameAfter impossible
+    framed-rises h acknowledged n what possible = rw possible (frame-cases h what (reachesBuffer what))
+
+    echo-rises : (what : Arrival) → impossible d Completed ≡ false → eqb (d .acting) loopback ≡ true → reachesBuffer what ≡ true
+        → Wired Completed true (answered (Arrived what)) (echoed d what)
+    unfolding echoed sent arrived raised impossible
+    echo-rises what possible back taken =
+        rw (not-false (runs d) possible, back, taken)
+        (stays _ ∙ sym (frame-rises (d .regs .intf) (isQueued what) (hit d (headerIn (d .buffer .bytes)) (dataIn (d .buffer .bytes))) _))
+
+    pub event-rises : (e : Event) → Wired e (done (step d (wire e payload) .given)) (step d (wire e payload) .given) (step d (wire e payload) .device)
+    event-rises e = by-happening Wired d payload (λ e n. refl) framed-rises echo-rises (λ e possible. after-rises e) e

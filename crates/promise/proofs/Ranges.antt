@@ -1,0 +1,80 @@
+-- The ranges that make a device proper, part by part. Assumes nothing.
+use mathlib.Core.Path.{_≡_, refl}
+use mathlib.Core.Bool.{Bool, true, false, _&&_, _||_}
+use Prim.Native.Nat.{ℕ, _<_, _≤_}
+use native.Mathlib.Omega.{arith}
+use borrow.Author.Tests.{lt-ltb, le-leb, ltb-true, leb-true}
+use lib.Dec.{eqb, leb, ltb}
+use Rattle.base.specs.Pick.{pick}
+use Rattle.base.proofs.Booleans.{and-left, and-right}
+use Rattle.fifo.specs.declared.Fifo.{Fifo}
+use Rattle.fifo.specs.declared.Message.{Message}
+use Rattle.fifo.specs.Queue.{empty, put, take, inRange}
+use Rattle.chip.specs.declared.Device.{Device}
+use Rattle.chip.specs.Proper.{registersInRange, sendingInRange, actingInRange, proper}
+use Rattle.chip.specs.State.{modeOf, sleep, initialization, first-in-fifo, alone}
+
+abbrev pub filhitFits : ℕ → Bool
+filhitFits n = eqb n 0 || (leb 8 n && leb n 15)
+
+abbrev pub sendingFits : ℕ → ℕ → Bool
+sendingFits sending waiting = pick (eqb sending first-in-fifo) (leb 1 waiting) (leb sending alone)
+
+abbrev pub actingFits : ℕ → ℕ → Bool
+actingFits acting ctrl0 = pick (eqb (modeOf ctrl0) sleep) (leb acting initialization) (eqb acting (modeOf ctrl0))
+
+-- One range for each part, in this order: a change of other parts leaves it as it is.
+abbrev pub Ranges : Fifo → Fifo → Fifo → ℕ → ℕ → ℕ → ℕ → ℕ → ℕ → ℕ → Type 0
+Ranges rx tx history groups errs mtag filhit sending acting ctrl0 =
+    (inRange rx ≡ true)
+    × (inRange tx ≡ true)
+    × (inRange history ≡ true)
+    × (leb groups 128 ≡ true)
+    × (leb errs 31 ≡ true)
+    × (leb mtag 3 ≡ true)
+    × (filhitFits filhit ≡ true)
+    × (sendingFits sending (tx .count) ≡ true)
+    × (actingFits acting ctrl0 ≡ true)
+
+abbrev pub InRange : Device → Type 0
+InRange d =
+    Ranges (d .rx) (d .tx) (d .history) (d .counters .groups) (d .regs .errs) (d .regs .mtag) (d .regs .filhit)
+    (d .sending) (d .acting) (d .regs .ctrl0)
+
+pub ranges-proper : (d : Device) → InRange d → proper d ≡ true
+unfolding proper registersInRange sendingInRange actingInRange
+ranges-proper d h = rw (h .0, h .1, h .2, h .4, h .5, h .6, h .3, h .7, h .8)
+
+-- ---- queues
+
+pub empty-fits : inRange empty ≡ true
+unfolding inRange empty
+empty-fits = refl
+
+fits : (q : Fifo) → q .first < 8 → q .count ≤ 8 → inRange q ≡ true
+unfolding inRange
+fits q p r = rw (lt-ltb (q .first) 8 p, le-leb (q .count) 8 r)
+
+first-below : (q : Fifo) → inRange q ≡ true → q .first < 8
+unfolding inRange
+first-below q e = ltb-true (q .first) 8 (and-left (ltb (q .first) 8) (leb (q .count) 8) e)
+
+count-below : (q : Fifo) → inRange q ≡ true → q .count ≤ 8
+unfolding inRange
+count-below q e = leb-true (q .count) 8 (and-right (ltb (q .first) 8) (leb (q .count) 8) e)
+
+put-cases : (t : Bool) (q : Fifo) (m : Message) → ltb (q .count) 8 ≡ t → inRange q ≡ true → inRange (put q m) ≡ true
+unfolding put
+put-cases true q m e h = rw e (fits _ (first-below q h) (omega (arith, ltb-true (q .count) 8 e)))
+put-cases false q m e h = rw e h
+
+pub put-fits : (q : Fifo) (m : Message) → inRange q ≡ true → inRange (put q m) ≡ true
+put-fits q m h = put-cases (ltb (q .count) 8) q m refl h
+
+take-cases : (t : Bool) (q : Fifo) → eqb (q .count) 0 ≡ t → inRange q ≡ true → inRange (take q) ≡ true
+unfolding take
+take-cases true q e h = rw e h
+take-cases false q e h = rw e (fits _ (omega arith) (omega (arith, count-below q h)))
+
+pub take-fits : (q : Fifo) → inRange q ≡ true → inRange (take q) ≡ true
+take-fits q h = take-cases (eqb (q .count) 0) q refl h

@@ -1,0 +1,190 @@
+-- The two sides of a promise that a wrong device breaks, on a sequence, computed in one table. Assumes nothing.
+use mathlib.Core.Path.{_≡_, refl, sym, _∙_, ap}
+use mathlib.Core.Bool.{Bool, true, false, _&&_, false≢true}
+use mathlib.Core.List.{List, [], _∷_, _++_, map}
+use Prim.Native.Nat.{ℕ, _%_}
+use borrow.Author.Tests.{eq-eqb}
+use lib.Dec.{eqb}
+use lib.ListN.{length, getD, replicate}
+use Rattle.base.specs.Pick.{pick}
+use Rattle.base.specs.Put.{putOf}
+use Rattle.counters.specs.declared.Counters.{Counters}
+use Rattle.fifo.specs.Queue.{waiting}
+use Rattle.chip.specs.declared.Device.{Device}
+use Rattle.chip.specs.State.{fresh}
+use Rattle.events.specs.declared.ErrorKind.the-variants.{Bit}
+use Rattle.events.specs.declared.Event.the-variants.{GoodFrame, ReceiveError, TransmitError, Begun, ElevenRecessive, Ticks}
+use Rattle.judged.specs.declared.Answer.the-variants.{Arrived}
+use Rattle.promise.specs.Sequence.{Input, spi, wire, Given, replied, answered, Machine, shipped, number, run}
+use Rattle.promise.specs.Numbers.{row, lowest, said, numberGiven, Refused}
+use Rattle.promise.specs.Meaning.{Meaning, frame, reading, clearing, other, means}
+use Rattle.promise.specs.Ledger.{Ledger, left, oldest, fields, due, hidden, buffered, Answers, ledger}
+use Rattle.promise.specs.Sums.{sum, ticks, seen, errBits}
+use Rattle.promise.specs.Interrupts.{flags, together}
+use Rattle.promise.specs.Wrong.{onlyFirst, leisurely, roomFirst, takesTwo, shortTakes, resetKeeps, modeClears, showsAnother, hitAtRead, repliesZeros}
+use Rattle.promise.specs.Wrong.{refusesAll, changesNothing, madeUpRec, madeUpTec, madeUpGroups, errCleared, intfKept}
+use Rattle.host.specs.Transfer
+use Rattle.refused.specs.Refused
+use Rattle.chip.specs.Proper
+use Rattle.chip.specs.State
+use Rattle.fifo.specs.Queue
+use Rattle.commands.specs.Table
+use Rattle.sent.specs.Sent
+use Rattle.done.specs.Done
+use Rattle.modes.specs.Modes
+use Rattle.flags.specs.Flags
+use Rattle.flags.specs.Reset
+use Rattle.receive.specs.Receive
+use Rattle.filter.specs.Lowest
+use Rattle.filter.specs.Match
+use Rattle.frame.specs.Length
+use Rattle.frame.specs.Received
+use Rattle.frame.specs.Tables
+use Rattle.judged.specs.Judged
+use Rattle.changed.specs.Changed
+use Rattle.bus.specs.Event
+use Rattle.counters.specs.Rules
+use Rattle.transmit.specs.Transmit
+use Rattle.shown.specs.Shown
+
+-- ---- lists of numbers that differ
+
+abbrev pub alike : List ℕ → List ℕ → Bool
+alike [] [] = true
+alike [] (y ∷ ys) = false
+alike (x ∷ xs) [] = false
+alike (x ∷ xs) (y ∷ ys) = eqb x y && alike xs ys
+
+alike-self : (xs : List ℕ) → alike xs xs ≡ true
+alike-self [] = refl
+alike-self (x ∷ xs) = rw (eq-eqb x x refl) (alike-self xs)
+
+-- ---- each promise's two sides, in numbers
+
+abbrev pub Sides : Type 0
+Sides = List ℕ × List ℕ
+
+abbrev pub wholeSides : Machine → List Input → Sides
+wholeSides w is = (length (ledger w is .taken ++ waiting (run w fresh is .rx)) ∷ [], length (ledger w is .accepted) ∷ [])
+
+abbrev pub numbers : Given → List ℕ
+numbers (replied n buffer) = n ∷ buffer
+numbers (answered a) = number (answered a) ∷ said (answered a)
+
+-- what is due, and what is given where nothing is
+abbrev pub numbersDue : Device → Ledger → List ℕ → Meaning → Given → List ℕ
+numbersDue d l buffer (frame h payload earlier) given = numbers (answered (Arrived (due d l h payload earlier)))
+numbersDue d l buffer (reading verb) given = numbers (pick (eqb (left l) 0) (replied 7 buffer) (replied 0 (putOf (fields verb (oldest l)) buffer)))
+numbersDue d l buffer clearing given = numbers given
+numbersDue d l buffer other given = numbers given
+
+pub given-due : (d : Device) (l : Ledger) (buffer : List ℕ) (m : Meaning) (given : Given)
+    → Answers d l buffer m given → numbers given ≡ numbersDue d l buffer m given
+given-due d l buffer (frame h payload earlier) given is = ap numbers is
+given-due d l buffer (reading verb) given is = ap numbers is
+given-due d l buffer clearing given is = refl
+given-due d l buffer other given is = refl
+
+abbrev pub dueSides : Machine → List Input → Input → Sides
+dueSides w is i = (
+  numbers (w (run w fresh is) i .given),
+  numbersDue (hidden (run w fresh is)) (ledger w is) (buffered i) (means (hidden (run w fresh is)) i) (w (run w fresh is) i .given),
+)
+
+abbrev pub counts : Counters → List ℕ
+counts c = c .rec ∷ c .tec ∷ c .groups ∷ []
+
+abbrev pub countedSides : Machine → List Input → Sides
+countedSides w is = (counts (run w fresh is .counters), counts (sum w is))
+
+abbrev pub queueSides : Machine → Device → Input → Sides
+queueSides w d i = (w d i .device .rx .count ∷ [], d .rx .count ∷ [])
+
+-- ---- the sequences
+
+abbrev pub normal : Input
+normal = spi (0x14 ∷ 0x00 ∷ []) []
+
+abbrev pub scan : ℕ → Input
+scan byte = wire (GoodFrame (record { id = 0x123; extended = false; remote = false; code = 1 }) true 1) (byte ∷ replicate 7 0)
+
+abbrev pub read : Input
+read = spi (0x48 ∷ []) (replicate 14 0xFF)
+
+-- with no buffer for the reply
+abbrev pub tooShort : Input
+tooShort = spi (0x48 ∷ []) []
+
+abbrev pub readCtrl0 : Input
+readCtrl0 = spi (0xD2 ∷ []) (0 ∷ [])
+
+abbrev pub two : List Input
+two = normal ∷ scan 1 ∷ scan 2 ∷ []
+
+-- eight scans, then filters on with none that matches
+abbrev pub strangers : List Input
+strangers =
+    map (λ k. spi (k ∷ 0xFF ∷ 0xFF ∷ 0xFF ∷ 0xFF ∷ 0xFF ∷ 0xFF ∷ []) []) (0x74 ∷ 0x76 ∷ 0x78 ∷ 0x7A ∷ 0x7C ∷ 0x7E ∷ 0x82 ∷ 0x84 ∷ []) ++
+    normal ∷ map scan (1 ∷ 2 ∷ 3 ∷ 4 ∷ 5 ∷ 6 ∷ 7 ∷ 8 ∷ []) ++ spi (0x16 ∷ 0x10 ∷ []) [] ∷ []
+
+-- filter 0 made to miss, a scan without filters, then filters on: filter 1 would match now
+abbrev pub filtersLater : List Input
+filtersLater = spi (0x74 ∷ 0xFF ∷ 0xFF ∷ 0xFF ∷ 0xFF ∷ 0xFF ∷ 0xFF ∷ []) [] ∷ normal ∷ scan 1 ∷ spi (0x16 ∷ 0x10 ∷ []) [] ∷ []
+
+-- a transmission that fails at TEC 255, then a group of recessive bits
+abbrev pub busOff : List Input
+busOff =
+    normal ∷ spi (0x26 ∷ 0xFF ∷ []) [] ∷ spi (0x12 ∷ 0x07 ∷ 0x24 ∷ 0x60 ∷ 0x00 ∷ []) [] ∷ spi (0x16 ∷ 0x80 ∷ []) [] ∷ wire Begun [] ∷
+    wire (TransmitError Bit true) [] ∷ wire ElevenRecessive [] ∷ []
+
+abbrev pub errorThenReset : List Input
+errorThenReset = normal ∷ wire (ReceiveError Bit) [] ∷ spi (0x56 ∷ []) [] ∷ []
+
+-- ---- the table
+
+abbrev pub sides : List Sides
+sides =
+    wholeSides onlyFirst two ∷
+    wholeSides takesTwo (two ++ read ∷ []) ∷
+    wholeSides resetKeeps (two ++ spi (0x56 ∷ []) [] ∷ []) ∷
+    wholeSides modeClears (two ++ spi (0x14 ∷ 0x40 ∷ []) [] ∷ []) ∷
+    dueSides leisurely (normal ∷ wire (Ticks 1) [] ∷ []) (scan 1) ∷
+    dueSides roomFirst strangers (scan 9) ∷
+    dueSides showsAnother two read ∷
+    dueSides hitAtRead filtersLater read ∷
+    dueSides repliesZeros two read ∷
+    countedSides madeUpRec (normal ∷ wire (ReceiveError Bit) [] ∷ []) ∷
+    countedSides madeUpTec (spi (0x26 ∷ 0x05 ∷ []) [] ∷ []) ∷
+    countedSides madeUpGroups busOff ∷
+    (numberGiven refusesAll fresh readCtrl0 ∷ [], lowest (row fresh readCtrl0) ∷ []) ∷
+    (run changesNothing fresh (wire (Ticks 1) [] ∷ []) .time ∷ [], ticks changesNothing (wire (Ticks 1) [] ∷ []) % 65536 ∷ []) ∷
+    (run errCleared fresh errorThenReset .regs .errs ∷ [], errBits (seen errCleared errorThenReset) ∷ []) ∷
+    (run intfKept fresh errorThenReset .regs .intf ∷ [], together 0 (flags intfKept errorThenReset) ∷ []) ∷
+    queueSides shortTakes (run shipped fresh two) tooShort ∷
+    (numberGiven shortTakes (run shipped fresh two) tooShort ∷ [], 0 ∷ []) ∷
+    []
+
+differ : map (λ s. alike (s .0) (s .1)) sides ≡ replicate 18 false
+unfolding Transfer.transfer Transfer.replyAfter Refused.lengthFits Refused.setsUp Refused.outsideSetUp Refused.findsFull Refused.readsMessage
+    Refused.findsNone Refused.refusal Refused.rowJudged Refused.judged Proper.registersInRange Proper.sendingInRange Proper.actingInRange
+    Proper.proper State.modeOf State.fresh State.enabled State.bank Queue.empty Queue.put Queue.take Queue.next Queue.inRange Table.rows
+    Sent.headerSent Sent.rightLength Sent.readMessage Sent.stored Done.pattern Done.registersAfter Done.registerChanged Done.messageTaken
+    Done.entryTaken Done.receiveCleared Done.timeReset Done.messageWritten Done.filterWritten Done.maskWritten Done.recWritten Done.tecWritten
+    Done.does Modes.changed Modes.writeCtrl0 Modes.canSleep Modes.busQuiet Modes.busActivity Flags.raised Flags.busError Reset.reset Receive.hit
+    Receive.room Receive.passed Receive.answered Receive.reason Receive.isQueued Receive.queuedFlag Receive.filterFlag Receive.queueAfter
+    Receive.arrived Lowest.lowest Lowest.filhit Match.matches Length.dataLength Length.dataBytes Length.possible Length.dataFits Length.dataOf
+    Received.received Received.headerIn Tables.idBits Tables.idToSend Tables.readId Tables.compared Judged.quietMode Judged.noErrors Judged.runs
+    Judged.impossibleFrame Judged.impossible Judged.takesNoFrames Judged.unacknowledged Judged.reason Judged.echo Judged.said Changed.errBit
+    Changed.countedFrame Changed.heard Changed.reachesBuffer Changed.frameAfter Changed.countedReceiveError Changed.errorReceived Changed.dominantMet
+    Changed.countedTransmitError Changed.errorSent Changed.echoed Changed.recessiveMet Changed.ticked Changed.pinSet Changed.arrival Changed.after
+    Event.numberOf Event.reasonOf Event.valuesOf Event.answer Event.event Rules.receiveError Rules.dominantBit Rules.goodFrame Rules.transmitError
+    Rules.completed Rules.elevenRecessive Rules.writeRec Rules.writeTec Transmit.sends Transmit.canBegin Transmit.withoutTx1m Transmit.ctrl1Begun
+    Transmit.begun Transmit.stopped Transmit.aborted Transmit.leftAlone Transmit.cleared Transmit.stamped Transmit.fifoAfter
+    Transmit.countedCompletion Transmit.sent Shown.cut Shown.register Shown.shows
+differ = refl
+
+pub differs-at : (k : ℕ) → getD (map (λ s. alike (s .0) (s .1)) sides) k true ≡ getD (replicate 18 false) k true
+differs-at k = ap (λ (tests : List Bool). getD tests k true) differ
+
+pub apart : (s : Sides) → alike (s .0) (s .1) ≡ false → s .0 ≡ s .1 → ⊥
+apart s differs same = false≢true (sym differs ∙ rw same (alike-self (s .1)))

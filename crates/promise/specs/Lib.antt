@@ -1,0 +1,9 @@
+pub mod Sequence
+pub mod Numbers
+pub mod Meaning
+pub mod Ledger
+pub mod Sums
+pub mod Interrupts
+pub mod Wrong
+pub mod Worked
+pub mod Promises

@@ -1,0 +1,58 @@
+-- What is promised of the device that is shipped: a line for each promise, which the file named in it says in full. docs/PROMISES.md
+-- tells them in plain words.
+use Rattle.promise.specs.Sequence.{shipped}
+use Rattle.promise.specs.Numbers.{Answered, First, Exactly, Refused, NeverOne}
+use Rattle.promise.specs.Ledger.{Whole, Due, Same, AsArrived}
+use Rattle.promise.specs.Sums.{Counted, Timed, Seen}
+use Rattle.promise.specs.Interrupts.{Raised}
+use Rattle.promise.specs.Worked.{Worked}
+
+-- ---- demand 1 (Numbers)
+
+abbrev pub EveryInputIsAnswered : Type 0
+EveryInputIsAnswered = Answered shipped
+
+abbrev pub TheFirstNumberIsGiven : Type 0
+TheFirstNumberIsGiven = First shipped
+
+abbrev pub EachNumberExactly : Type 0
+EachNumberExactly = Exactly shipped
+
+abbrev pub ARefusalChangesNothing : Type 0
+ARefusalChangesNothing = Refused shipped
+
+abbrev pub OneIsNeverGiven : Type 0
+OneIsNeverGiven = NeverOne shipped
+
+-- ---- demand 2, over sequences (Sums, Interrupts)
+
+abbrev pub CountersAreTheRulesSum : Type 0
+CountersAreTheRulesSum = Counted shipped
+
+abbrev pub TheTimeTagIsTheTicks : Type 0
+TheTimeTagIsTheTicks = Timed shipped
+
+abbrev pub ErrIsTheKindsSeen : Type 0
+ErrIsTheKindsSeen = Seen shipped
+
+abbrev pub IntfIsTheFlagsRaised : Type 0
+IntfIsTheFlagsRaised = Raised shipped
+
+-- ---- demand 3 (Ledger)
+
+abbrev pub NoFrameIsLost : Type 0
+NoFrameIsLost = Whole shipped
+
+abbrev pub EachAnswerIsDue : Type 0
+EachAnswerIsDue = Due shipped
+
+abbrev pub TheAnswersKeepTheLedger : Type 0
+TheAnswersKeepTheLedger = Same shipped
+
+abbrev pub FieldsStandAsTheyArrived : Type 0
+FieldsStandAsTheyArrived = AsArrived
+
+-- ---- 01's worked numbers (Worked)
+
+abbrev pub TheWorkedNumbersHold : Type 0
+TheWorkedNumbersHold = Worked
