@@ -4,31 +4,30 @@ use mathlib.Core.Bool.{Bool, true, false, not, _&&_, _||_}
 use mathlib.Core.List.{List}
 use Prim.Native.Nat.{ℕ}
 use native.Mathlib.Omega.{arith}
+use borrow.Author.Tests.{eqb-true}
 use lib.Dec.{eqb, ltb}
 use lib.ListN.{length}
-use borrow.Author.Tests.{eqb-true}
 use Rattle.base.specs.Bit.{byte}
 use Rattle.base.specs.Pick.{pick}
 use Rattle.chip.specs.declared.Device.{Device}
 use Rattle.chip.specs.Proper.{proper}
 use Rattle.chip.specs.State.{loopback}
+use Rattle.receive.specs.declared.Arrival.{Arrival}
+use Rattle.events.specs.declared.Event.{Event}
+use Rattle.events.specs.declared.Event.the-variants.{GoodFrame, ReceiveError, DominantBit, TransmitError, Begun, Completed, ArbitrationLost, ElevenRecessive}
+use Rattle.events.specs.declared.Event.the-variants.{BusQuiet, BusActivity, Ticks, TxenPin, MasterReset, Unknown}
+use Rattle.judged.specs.declared.Answer.{Answer}
+use Rattle.judged.specs.declared.Answer.the-variants.{Refused as RefusedEvent, Done, Arrived}
+use Rattle.judged.specs.Judged.{impossible, said, echo}
+use Rattle.bus.specs.Event.{answer, outcome, event, numberOf}
 use Rattle.commands.specs.declared.Found.{Found}
 use Rattle.commands.specs.declared.Found.the-variants.{At, Nothing}
 use Rattle.commands.specs.declared.Row.{Row}
 use Rattle.commands.specs.Table.{rows, lookup}
-use Rattle.receive.specs.declared.Arrival.{Arrival}
 use Rattle.refused.specs.declared.Verdict.{Verdict}
 use Rattle.refused.specs.declared.Verdict.the-variants.{Refused as RefusedTransfer, Accepted}
 use Rattle.refused.specs.Refused.{refusal, rowJudged, judged, lengthFits, outsideSetUp, findsFull, findsNone}
 use Rattle.host.specs.Transfer.{transfer, outcome as transferred}
-use Rattle.events.specs.declared.Event.{Event}
-use Rattle.events.specs.declared.Event.the-variants.{GoodFrame, ReceiveError, DominantBit, TransmitError, Begun, Completed}
-use Rattle.events.specs.declared.Event.the-variants.{ArbitrationLost, ElevenRecessive, BusQuiet, BusActivity, Ticks, TxenPin}
-use Rattle.events.specs.declared.Event.the-variants.{MasterReset, Unknown}
-use Rattle.judged.specs.declared.Answer.{Answer}
-use Rattle.judged.specs.declared.Answer.the-variants.{Refused as RefusedEvent, Done, Arrived}
-use Rattle.judged.specs.Judged.{impossible, said, echo}
-use Rattle.bus.specs.Event.{answer, outcome, event, numberOf, valuesOf}
 use Rattle.promise.specs.Promises.{EveryInputIsAnswered, TheFirstNumberIsGiven, EachNumberExactly, ARefusalChangesNothing}
 use Rattle.promise.specs.Sequence.{spi, wire, shipped as step, number}
 use Rattle.promise.specs.Numbers.{row, lowest, found, numberGiven, Untouched}
@@ -135,12 +134,12 @@ exactly d i n above below = (
 )
 
 pub refused : ARefusalChangesNothing
-unfolding valuesOf
+unfolding numberOf
 refused d (spi bytes buffer) =
     by-transfer (λ s. (number (s .given) ≡ 0 → ⊥) → Untouched d (spi bytes buffer) s) d bytes buffer
     (λ n e wrong not-done. refl)
     (λ r e at not-done. absurd (not-done refl))
 refused d (wire e payload) =
     by-event (λ s. (number (s .given) ≡ 0 → ⊥) → Untouched d (wire e payload) s) d e payload
-    (λ n wrong not-done. (refl, refl))
+    (λ n wrong not-done. refl)
     (λ possible not-done. absurd (not-done (number-of-answer d e payload (said d e payload) ∙ said-done d e payload)))

@@ -19,8 +19,8 @@ use Rattle.flags.specs.Flags.{raised}
 use Rattle.flags.specs.Reset.{reset}
 use Rattle.transmit.specs.Transmit.{aborted, cleared, leftAlone, stopped}
 use Rattle.modes.specs.Modes.{changed, writeCtrl0}
-use Rattle.done.specs.Done.{settings, registersAfter, registerChanged, messageTaken, entryTaken, receiveCleared, timeReset, messageWritten}
-use Rattle.done.specs.Done.{filterWritten, maskWritten, recWritten, tecWritten, deeds, does}
+use Rattle.done.specs.Done.{settings, registersAfter, registerChanged, messageTaken, entryTaken, receiveCleared, timeReset, messageWritten, filterWritten}
+use Rattle.done.specs.Done.{maskWritten, recWritten, tecWritten, deeds, does}
 use Rattle.promise.proofs.Steps.{keeps}
 use Rattle.promise.proofs.Among.{_and_, among-keeps}
 use Rattle.promise.proofs.Choices.{pick-under}

@@ -10,19 +10,18 @@ use Rattle.counters.specs.Rules.{zeroed, goodFrame, transmitError, writeRec, wr
 use Rattle.frame.specs.declared.Header.{Header}
 use Rattle.chip.specs.declared.Device.{Device}
 use Rattle.chip.specs.State.{fresh, normal, monitor, bor}
-use Rattle.commands.specs.Verbs.{writeRec as writesRec, writeTec as writesTec}
 use Rattle.flags.specs.Flags.{raised, busError}
 use Rattle.flags.specs.Reset.{reset}
 use Rattle.transmit.specs.Transmit.{stopped, begun, sent, countedCompletion}
 use Rattle.receive.specs.declared.Arrival.{Arrival}
 use Rattle.receive.specs.Receive.{arrived}
 use Rattle.events.specs.declared.Event.{Event}
-use Rattle.events.specs.declared.Event.the-variants.{GoodFrame, ReceiveError, DominantBit, TransmitError, Begun, Completed}
-use Rattle.events.specs.declared.Event.the-variants.{ArbitrationLost, ElevenRecessive, BusQuiet, BusActivity, Ticks, TxenPin}
-use Rattle.events.specs.declared.Event.the-variants.{MasterReset, Unknown}
+use Rattle.events.specs.declared.Event.the-variants.{GoodFrame, ReceiveError, DominantBit, TransmitError, Begun, Completed, ArbitrationLost, ElevenRecessive}
+use Rattle.events.specs.declared.Event.the-variants.{BusQuiet, BusActivity, Ticks, TxenPin, MasterReset, Unknown}
 use Rattle.judged.specs.declared.Answer.the-variants.{Done}
-use Rattle.changed.specs.Changed.{after, reachesBuffer, frameAfter, heard, countedFrame, echoed, errorReceived, countedReceiveError}
-use Rattle.changed.specs.Changed.{dominantMet, errorSent, countedTransmitError, recessiveMet, ticked, pinSet}
+use Rattle.changed.specs.Changed.{after, reachesBuffer, frameAfter, heard, countedFrame, echoed, errorReceived, countedReceiveError, dominantMet, errorSent}
+use Rattle.changed.specs.Changed.{countedTransmitError, recessiveMet, ticked, pinSet}
+use Rattle.commands.specs.Verbs.{writeRec as writesRec, writeTec as writesTec}
 use Rattle.promise.specs.Promises.{CountersAreTheRulesSum}
 use Rattle.promise.specs.Sequence.{Input, spi, wire, answered, Step, shipped as step}
 use Rattle.promise.specs.Sums.{counted, countedEvent}

@@ -19,14 +19,13 @@ use Rattle.modes.specs.Modes.{changed, busQuiet, busActivity, canSleep}
 use Rattle.receive.specs.declared.Arrival.{Arrival}
 use Rattle.receive.specs.Receive.{arrived, hit, queueAfter, isQueued}
 use Rattle.events.specs.declared.ErrorKind.{ErrorKind}
-use Rattle.changed.specs.Changed.{errBit, countedFrame, heard, reachesBuffer, frameAfter, countedReceiveError, errorReceived, dominantMet}
-use Rattle.changed.specs.Changed.{countedTransmitError, errorSent, echoed, recessiveMet, ticked, pinSet, arrival, after}
 use Rattle.events.specs.declared.Event.{Event}
-use Rattle.events.specs.declared.Event.the-variants.{GoodFrame, ReceiveError, DominantBit, TransmitError, Begun, Completed}
-use Rattle.events.specs.declared.Event.the-variants.{ArbitrationLost, ElevenRecessive, BusQuiet, BusActivity, Ticks, TxenPin}
-use Rattle.events.specs.declared.Event.the-variants.{MasterReset, Unknown}
+use Rattle.events.specs.declared.Event.the-variants.{GoodFrame, ReceiveError, DominantBit, TransmitError, Begun, Completed, ArbitrationLost, ElevenRecessive}
+use Rattle.events.specs.declared.Event.the-variants.{BusQuiet, BusActivity, Ticks, TxenPin, MasterReset, Unknown}
 use Rattle.judged.specs.declared.Answer.{Answer}
 use Rattle.judged.specs.Judged.{impossible, said, echo}
+use Rattle.changed.specs.Changed.{errBit, countedFrame, heard, reachesBuffer, frameAfter, countedReceiveError, errorReceived, dominantMet, countedTransmitError}
+use Rattle.changed.specs.Changed.{errorSent, echoed, recessiveMet, ticked, pinSet, arrival, after}
 use Rattle.bus.specs.Event.{outcome}
 use Rattle.promise.proofs.Choices.{pick-under}
 use Rattle.promise.proofs.Ranges.{InRange, put-fits, take-fits}

@@ -6,10 +6,10 @@ use Prim.Native.Nat.{ℕ, _<_}
 use borrow.Author.Tests.{leb-false, not-true, not-false}
 use lib.Dec.{eqb, leb}
 use Rattle.base.specs.Pick.{pick}
-use Rattle.filter.specs.declared.Hit.{Hit}
-use Rattle.filter.specs.declared.Hit.the-variants.{Filter, Nothing}
 use Rattle.frame.specs.declared.Header.{Header}
 use Rattle.frame.specs.Received.{headerIn, dataIn}
+use Rattle.filter.specs.declared.Hit.{Hit}
+use Rattle.filter.specs.declared.Hit.the-variants.{Filter, Nothing}
 use Rattle.chip.specs.declared.Device.{Device}
 use Rattle.chip.specs.State.{fresh, filton, loopback, monitor, sleep, wakeup}
 use Rattle.flags.specs.Flags.{raised, busError}
@@ -20,13 +20,12 @@ use Rattle.receive.specs.declared.Arrival.{Arrival}
 use Rattle.receive.specs.declared.Arrival.the-variants.{Queued, A1, A2, A3, A4, A5}
 use Rattle.receive.specs.Receive.{hit, room, passed, answered as judgedBy, reason as filtersAndRoom, message, isQueued, queueAfter, arrived}
 use Rattle.events.specs.declared.Event.{Event}
-use Rattle.events.specs.declared.Event.the-variants.{GoodFrame, ReceiveError, DominantBit, TransmitError, Begun, Completed}
-use Rattle.events.specs.declared.Event.the-variants.{ArbitrationLost, ElevenRecessive, BusQuiet, BusActivity, Ticks, TxenPin}
-use Rattle.events.specs.declared.Event.the-variants.{MasterReset, Unknown}
+use Rattle.events.specs.declared.Event.the-variants.{GoodFrame, ReceiveError, DominantBit, TransmitError, Begun, Completed, ArbitrationLost, ElevenRecessive}
+use Rattle.events.specs.declared.Event.the-variants.{BusQuiet, BusActivity, Ticks, TxenPin, MasterReset, Unknown}
 use Rattle.judged.specs.declared.Answer.the-variants.{Refused, Done, Arrived}
 use Rattle.judged.specs.Judged.{impossible, runs, takesNoFrames, unacknowledged, reason, echo, said}
 use Rattle.changed.specs.Changed.{heard, reachesBuffer, frameAfter, errorReceived, dominantMet, errorSent, echoed, recessiveMet, ticked, pinSet, arrival, after}
-use Rattle.bus.specs.Event.{event, answer, outcome, numberOf}
+use Rattle.bus.specs.Event.{event, answer, outcome, numberOf, valuesOf}
 use Rattle.promise.specs.Sequence.{wire, answered, shipped as step}
 use Rattle.promise.specs.Meaning.{frame, other, fromTheBus, means}
 use Rattle.promise.specs.Ledger.{Ledger, missed, due, hidden}
@@ -120,7 +119,8 @@ module _ (d : Device) (l : Ledger) (h : Kept d l) where
 
   -- an event that leaves the queue alone
   leaves : (e : Event) (payload : List ℕ) → InRange (after d e) → after d e .rx ≡ d .rx → Agrees d l [] other (doneEvent d e payload Done)
-  leaves e payload range rx = other-agrees d l h [] (after d e) (answered Done) range rx
+  unfolding valuesOf
+  leaves e payload range rx = other-agrees d l h [] (after d e) (answered Done) range rx refl
 
   sent-queue : (e : Device) → sent e .rx ≡ e .rx
   unfolding sent raised
@@ -150,7 +150,7 @@ module _ (d : Device) (l : Ledger) (h : Kept d l) where
 
   done-agrees : (e : Event) (payload : List ℕ) → impossible d e ≡ false → InRange (outcome d e payload (said d e payload) .device)
       → Agrees d l [] (means (hidden d) (wire e payload)) (doneEvent d e payload (said d e payload))
-  unfolding said arrival after impossible errorReceived dominantMet errorSent stopped begun busError raised recessiveMet ticked pinSet reset fresh numberOf
+  unfolding said arrival after impossible errorReceived dominantMet errorSent stopped begun busError raised recessiveMet ticked pinSet reset fresh numberOf valuesOf
   done-agrees (GoodFrame header acknowledged n) payload possible range =
       rw possible
       (frame-agrees d l h [] header payload (fromTheBus (hidden d) acknowledged) (reason d header acknowledged payload) _
@@ -168,13 +168,14 @@ module _ (d : Device) (l : Ledger) (h : Kept d l) where
   done-agrees BusActivity payload possible range = leaves BusActivity payload range activity-queue
   done-agrees (Ticks count) payload possible range = leaves (Ticks count) payload range refl
   done-agrees (TxenPin level) payload possible range = leaves (TxenPin level) payload range refl
-  done-agrees MasterReset payload possible range = clear-agrees d l h [] (reset d) (answered Done) range refl refl
+  done-agrees MasterReset payload possible range = clear-agrees d l h [] (reset d) (answered Done) range refl refl refl
   done-agrees Unknown payload possible range = absurd (false≢true (sym possible))
 
   -- ---- and one that is refused
 
   left-alone : Agrees d l [] other (refusedEvent d 8)
-  left-alone = other-agrees d l h [] d (answered (Refused 8)) (h .range) refl
+  unfolding valuesOf
+  left-alone = other-agrees d l h [] d (answered (Refused 8)) (h .range) refl refl
 
   refused-agrees : (e : Event) (payload : List ℕ) → impossible d e ≡ true → Agrees d l [] (means (hidden d) (wire e payload)) (refusedEvent d 8)
   unfolding impossible runs

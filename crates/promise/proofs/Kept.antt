@@ -15,8 +15,7 @@ use Rattle.base.proofs.Lists.{tabulate}
 use Rattle.base.proofs.Booleans.{pick-bound}
 use Rattle.fifo.specs.declared.Fifo.{Fifo}
 use Rattle.fifo.specs.declared.Message.{Message}
-use Rattle.fifo.specs.Queue.{empty, absent, waiting, put, next}
-use Rattle.fifo.specs.Queue.{take as takeOff}
+use Rattle.fifo.specs.Queue.{empty, absent, waiting, put, next, take as takeOff}
 use Rattle.fifo.proofs.Waiting.{put-waits, take-waits}
 use Rattle.frame.specs.declared.Header.{Header}
 use Rattle.frame.specs.Length.{dataLength, dataBytes, dataOf}
@@ -26,8 +25,9 @@ use Rattle.chip.specs.declared.Device.{Device}
 use Rattle.receive.specs.declared.Arrival.{Arrival}
 use Rattle.receive.specs.Receive.{hit, message, isQueued, queueAfter}
 use Rattle.judged.specs.declared.Answer.the-variants.{Arrived}
+use Rattle.promise.specs.Numbers.{said}
 use Rattle.promise.specs.Meaning.{Reason, Meaning, frame, reading, clearing, other}
-use Rattle.promise.specs.Ledger.{Ledger, left, oldest, due, accepts, nothing, entered, owed, heard, hidden, fields, Answers}
+use Rattle.promise.specs.Ledger.{Ledger, left, oldest, due, accepts, nothing, entered, owed, told, hidden, fields, Answers}
 use Rattle.promise.specs.Sequence.{Given, replied, answered, Step, number}
 use Rattle.promise.proofs.Choices.{pick-under}
 use Rattle.promise.proofs.Ranges.{InRange}
@@ -96,7 +96,7 @@ pub record Kept (d : Device) (l : Ledger) : Type 0 where
 pub record Agrees (d : Device) (l : Ledger) (buffer : List ℕ) (m : Meaning) (s : Step) : Type 0 where
   pub answers : Answers (hidden d) l buffer m (s .given)
   pub kept : Kept (s .device) (entered l (owed (hidden d) l m))
-  pub same : heard (hidden d) m (s .given) ≡ owed (hidden d) l m
+  pub same : told (hidden d) m (s .given) ≡ owed (hidden d) l m
 
 module _ (d : Device) (l : Ledger) (h : Kept d l) where
   waiting-length : length (waiting (d .rx)) ≡ d .rx .count
@@ -118,19 +118,20 @@ module _ (d : Device) (l : Ledger) (h : Kept d l) where
     next-sized = rw oldest-next at (sized-at (l .accepted) (length (l .taken)) (omega (arith, left-waits)) (h .sized))
 
   -- nothing that concerns the queue
-  pub other-agrees : (buffer : List ℕ) (e : Device) (given : Given) → InRange e → e .rx ≡ d .rx → Agrees d l buffer other (record { device = e; given = given })
-  other-agrees buffer e given range rx = record {
-    answers = tt;
+  pub other-agrees : (buffer : List ℕ) (e : Device) (given : Given) → InRange e → e .rx ≡ d .rx → said given ≡ []
+      → Agrees d l buffer other (record { device = e; given = given })
+  other-agrees buffer e given range rx silent = record {
+    answers = silent;
     kept = record { range = range; places = rw rx (h .places); whole = rw rx (h .whole); sized = h .sized };
     same = refl;
   }
 
   -- a clearing
-  pub clear-agrees : (buffer : List ℕ) (e : Device) (given : Given) → InRange e → e .rx ≡ empty → number given ≡ 0
+  pub clear-agrees : (buffer : List ℕ) (e : Device) (given : Given) → InRange e → e .rx ≡ empty → number given ≡ 0 → said given ≡ []
       → Agrees d l buffer clearing (record { device = e; given = given })
   unfolding empty
-  clear-agrees buffer e given range rx done = record {
-    answers = done;
+  clear-agrees buffer e given range rx done silent = record {
+    answers = (done, silent);
     kept = record { range = range; places = rw rx; whole = rw rx; sized = tt };
     same = rw done;
   }

@@ -10,6 +10,7 @@ pub mod EventsFit
 pub mod Proper
 pub mod Kept
 pub mod Replies
+pub mod LastChecks
 pub mod Transfers
 pub mod Frames
 pub mod Ledger
@@ -21,6 +22,7 @@ pub mod Seen
 pub mod Rising
 pub mod FlagsRaised
 pub mod Raised
+pub mod Readings
 pub mod Sides
 pub mod RuledOut
 pub mod Worked

@@ -13,13 +13,13 @@ use Rattle.counters.specs.Rules.{writeRec, writeTec}
 use Rattle.chip.specs.declared.Device.{Device}
 use Rattle.chip.specs.Parts.{with-regs}
 use Rattle.chip.specs.State.{fresh, modeOf, sleep, initialization}
-use Rattle.commands.specs.Verbs.{readErr, readIntf, masterReset, resetTime, writeCtrl0 as writesCtrl0, writeRec as writesRec, writeTec as writesTec}
 use Rattle.flags.specs.Flags.{raised, mchg}
 use Rattle.flags.specs.Reset.{reset}
 use Rattle.transmit.specs.Transmit.{aborted, cleared, stopped}
 use Rattle.modes.specs.Modes.{put-ctrl0, changed, writeCtrl0}
-use Rattle.done.specs.Done.{settings, registersAfter, registerChanged, messageTaken, entryTaken, receiveCleared, timeReset, messageWritten}
-use Rattle.done.specs.Done.{filterWritten, maskWritten, recWritten, tecWritten, deeds, does}
+use Rattle.commands.specs.Verbs.{readErr, readIntf, masterReset, resetTime, writeCtrl0 as writesCtrl0, writeRec as writesRec, writeTec as writesTec}
+use Rattle.done.specs.Done.{settings, registersAfter, registerChanged, messageTaken, entryTaken, receiveCleared, timeReset, messageWritten, filterWritten}
+use Rattle.done.specs.Done.{maskWritten, recWritten, tecWritten, deeds, does}
 use Rattle.promise.specs.Sequence.{spi, shipped as step}
 use Rattle.promise.specs.Sums.{done, asks}
 use Rattle.promise.proofs.Among.{_and_, AtKeys, outside, hasKey, among-keeps, none-of}

@@ -9,8 +9,8 @@ use Rattle.base.specs.Bit.{byte, isSet}
 use Rattle.base.specs.Pick.{pick}
 use Rattle.chip.specs.declared.Device.{Device}
 use Rattle.chip.specs.State.{fresh, modeOf, sleep, initialization}
-use Rattle.commands.specs.Verbs.{readIntf, masterReset, writeCtrl0 as writesCtrl0}
 use Rattle.flags.specs.Flags.{mchg}
+use Rattle.commands.specs.Verbs.{readIntf, masterReset, writeCtrl0 as writesCtrl0}
 use Rattle.promise.specs.Promises.{IntfIsTheFlagsRaised}
 use Rattle.promise.specs.Sequence.{Input, spi, wire, shipped as step}
 use Rattle.promise.specs.Sums.{done, asks, resetAsked}

@@ -9,7 +9,6 @@ use Rattle.base.specs.Pick.{pick}
 use Rattle.frame.specs.declared.Header.{Header}
 use Rattle.chip.specs.declared.Device.{Device}
 use Rattle.chip.specs.State.{fresh, monitor}
-use Rattle.commands.specs.Verbs.{readErr}
 use Rattle.flags.specs.Flags.{raised, busError}
 use Rattle.flags.specs.Reset.{reset}
 use Rattle.transmit.specs.Transmit.{stopped, begun, sent}
@@ -17,39 +16,38 @@ use Rattle.receive.specs.declared.Arrival.{Arrival}
 use Rattle.receive.specs.Receive.{arrived}
 use Rattle.events.specs.declared.ErrorKind.{ErrorKind}
 use Rattle.events.specs.declared.Event.{Event}
-use Rattle.events.specs.declared.Event.the-variants.{GoodFrame, ReceiveError, DominantBit, TransmitError, Begun, Completed}
-use Rattle.events.specs.declared.Event.the-variants.{ArbitrationLost, ElevenRecessive, BusQuiet, BusActivity, Ticks, TxenPin}
-use Rattle.events.specs.declared.Event.the-variants.{MasterReset, Unknown}
-use Rattle.changed.specs.Changed.{errBit, after, reachesBuffer, frameAfter, heard, echoed, errorReceived, dominantMet, errorSent}
-use Rattle.changed.specs.Changed.{recessiveMet, ticked, pinSet}
+use Rattle.events.specs.declared.Event.the-variants.{GoodFrame, ReceiveError, DominantBit, TransmitError, Begun, Completed, ArbitrationLost, ElevenRecessive}
+use Rattle.events.specs.declared.Event.the-variants.{BusQuiet, BusActivity, Ticks, TxenPin, MasterReset, Unknown}
+use Rattle.changed.specs.Changed.{errBit, after, reachesBuffer, frameAfter, heard, echoed, errorReceived, dominantMet, errorSent, recessiveMet, ticked, pinSet}
+use Rattle.commands.specs.Verbs.{readErr}
 use Rattle.promise.specs.Promises.{ErrIsTheKindsSeen}
 use Rattle.promise.specs.Sequence.{Input, spi, wire, Step, shipped as step}
-use Rattle.promise.specs.Sums.{kindOf, seenAfter, errBits}
+use Rattle.promise.specs.Sums.{kindOf, seenAfter, kindBits}
 use Rattle.promise.proofs.Among.{_and_}
 use Rattle.promise.proofs.Choices.{pick-keeps}
 use Rattle.promise.proofs.Steps.{keeps}
 use Rattle.promise.proofs.Parts.{Watched, by-command}
 use Rattle.promise.proofs.EventKinds.{quiet-unmoved, activity-unmoved, by-happening}
 
-module _ (d : Device) (kinds : List ErrorKind) (same : d .regs .errs ≡ errBits kinds) where
+module _ (d : Device) (kinds : List ErrorKind) (same : d .regs .errs ≡ kindBits kinds) where
   abbrev Shows : Input → Step → Type 0
-  Shows i s = s .device .regs .errs ≡ errBits (seenAfter kinds i (s .given))
+  Shows i s = s .device .regs .errs ≡ kindBits (seenAfter kinds i (s .given))
 
   on-spi : (bytes buffer : List ℕ) → Shows (spi bytes buffer) (step d (spi bytes buffer))
   on-spi bytes buffer =
-      by-command (λ ok asked (w : Watched). w .errs ≡ errBits (pick (ok && asked readErr) [] kinds)) d bytes buffer
+      by-command (λ ok asked (w : Watched). w .errs ≡ kindBits (pick (ok && asked readErr) [] kinds)) d bytes buffer
       same
       (same and same and same and same and same and refl and same and tt)
       (λ v none. rw (none readErr refl) same)
 
-  seen-too : (kind : ErrorKind) → bitOr (d .regs .errs) (errBit kind) ≡ bitOr (errBits kinds) (errBit kind)
+  seen-too : (kind : ErrorKind) → bitOr (d .regs .errs) (errBit kind) ≡ bitOr (kindBits kinds) (errBit kind)
   seen-too kind = ap (λ bits. bitOr bits (errBit kind)) same
 
-  after-errs : (e : Event) → after d e .regs .errs ≡ errBits (kindOf e ++ kinds)
+  after-errs : (e : Event) → after d e .regs .errs ≡ kindBits (kindOf e ++ kinds)
   unfolding after errorReceived busError raised dominantMet errorSent stopped begun sent recessiveMet ticked pinSet reset
   after-errs (GoodFrame h acknowledged n) = same
   after-errs (ReceiveError kind) = seen-too kind
-  after-errs DominantBit = pick-keeps (λ (e : Device). e .regs .errs ≡ errBits kinds) (eqb (d .acting) monitor) d _ same same
+  after-errs DominantBit = pick-keeps (λ (e : Device). e .regs .errs ≡ kindBits kinds) (eqb (d .acting) monitor) d _ same same
   after-errs (TransmitError kind counts) = seen-too kind
   after-errs Begun = same
   after-errs Completed = same
@@ -62,15 +60,15 @@ module _ (d : Device) (kinds : List ErrorKind) (same : d .regs .errs ≡ errBits
   after-errs MasterReset = same
   after-errs Unknown = same
 
-  frame-errs : (h : Header) (payload : List ℕ) (what : Arrival) → frameAfter d h payload what .regs .errs ≡ errBits kinds
+  frame-errs : (h : Header) (payload : List ℕ) (what : Arrival) → frameAfter d h payload what .regs .errs ≡ kindBits kinds
   unfolding frameAfter heard arrived raised
   frame-errs h payload what =
-      pick-keeps (λ (e : Device). e .regs .errs ≡ errBits kinds) (reachesBuffer what) _ _ same (ap (λ x. x .2) (activity-unmoved d) ∙ same)
+      pick-keeps (λ (e : Device). e .regs .errs ≡ kindBits kinds) (reachesBuffer what) _ _ same (ap (λ x. x .2) (activity-unmoved d) ∙ same)
 
   on-wire : (e : Event) (payload : List ℕ) → Shows (wire e payload) (step d (wire e payload))
   unfolding echoed sent arrived raised
   on-wire e payload =
-      by-happening (λ e ok given (after : Device). after .regs .errs ≡ errBits (pick ok (kindOf e ++ kinds) kinds)) d payload
+      by-happening (λ e ok given (after : Device). after .regs .errs ≡ kindBits (pick ok (kindOf e ++ kinds) kinds)) d payload
       (λ e n. same)
       (λ h acknowledged n what possible. frame-errs h payload what)
       (λ what possible back taken. same)
@@ -83,6 +81,6 @@ module _ (d : Device) (kinds : List ErrorKind) (same : d .regs .errs ≡ errBits
 pub seen-kinds : ErrIsTheKindsSeen
 unfolding fresh
 seen-kinds is =
-    keeps (λ d kinds i. seenAfter kinds i (step d i .given)) (λ d kinds. d .regs .errs ≡ errBits kinds)
+    keeps (λ d kinds i. seenAfter kinds i (step d i .given)) (λ d kinds. d .regs .errs ≡ kindBits kinds)
     (λ d kinds i same. on d kinds same i)
     fresh [] is refl

@@ -5,47 +5,50 @@ use mathlib.Core.List.{List, [], _∷_, _++_, map}
 use Prim.Native.Nat.{ℕ, _%_}
 use borrow.Author.Tests.{eq-eqb}
 use lib.Dec.{eqb}
-use lib.ListN.{length, getD, replicate}
+use lib.ListN.{getD, replicate}
 use Rattle.base.specs.Pick.{pick}
 use Rattle.base.specs.Put.{putOf}
 use Rattle.counters.specs.declared.Counters.{Counters}
+use Rattle.counters.specs.Rules
+use Rattle.fifo.specs.declared.Message.{Message}
 use Rattle.fifo.specs.Queue.{waiting}
-use Rattle.chip.specs.declared.Device.{Device}
-use Rattle.chip.specs.State.{fresh}
-use Rattle.events.specs.declared.ErrorKind.the-variants.{Bit}
-use Rattle.events.specs.declared.Event.the-variants.{GoodFrame, ReceiveError, TransmitError, Begun, ElevenRecessive, Ticks}
-use Rattle.judged.specs.declared.Answer.the-variants.{Arrived}
-use Rattle.promise.specs.Sequence.{Input, spi, wire, Given, replied, answered, Machine, shipped, number, run}
-use Rattle.promise.specs.Numbers.{row, lowest, said, numberGiven, Refused}
-use Rattle.promise.specs.Meaning.{Meaning, frame, reading, clearing, other, means}
-use Rattle.promise.specs.Ledger.{Ledger, left, oldest, fields, due, hidden, buffered, Answers, ledger}
-use Rattle.promise.specs.Sums.{sum, ticks, seen, errBits}
-use Rattle.promise.specs.Interrupts.{flags, together}
-use Rattle.promise.specs.Wrong.{onlyFirst, leisurely, roomFirst, takesTwo, shortTakes, resetKeeps, modeClears, showsAnother, hitAtRead, repliesZeros}
-use Rattle.promise.specs.Wrong.{refusesAll, changesNothing, madeUpRec, madeUpTec, madeUpGroups, errCleared, intfKept}
-use Rattle.host.specs.Transfer
-use Rattle.refused.specs.Refused
-use Rattle.chip.specs.Proper
-use Rattle.chip.specs.State
 use Rattle.fifo.specs.Queue
-use Rattle.commands.specs.Table
-use Rattle.sent.specs.Sent
-use Rattle.done.specs.Done
-use Rattle.modes.specs.Modes
-use Rattle.flags.specs.Flags
-use Rattle.flags.specs.Reset
-use Rattle.receive.specs.Receive
-use Rattle.filter.specs.Lowest
-use Rattle.filter.specs.Match
 use Rattle.frame.specs.Length
 use Rattle.frame.specs.Received
 use Rattle.frame.specs.Tables
+use Rattle.filter.specs.Lowest
+use Rattle.filter.specs.Match
+use Rattle.sent.specs.Sent
+use Rattle.chip.specs.declared.Device.{Device}
+use Rattle.chip.specs.State.{fresh}
+use Rattle.chip.specs.Proper
+use Rattle.chip.specs.State
+use Rattle.flags.specs.Flags
+use Rattle.flags.specs.Reset
+use Rattle.transmit.specs.Transmit
+use Rattle.modes.specs.Modes
+use Rattle.receive.specs.Receive
+use Rattle.events.specs.declared.ErrorKind.the-variants.{Bit}
+use Rattle.events.specs.declared.Event.the-variants.{GoodFrame, ReceiveError, TransmitError, Begun, ElevenRecessive, BusQuiet, Ticks}
+use Rattle.judged.specs.declared.Answer.the-variants.{Arrived}
 use Rattle.judged.specs.Judged
 use Rattle.changed.specs.Changed
 use Rattle.bus.specs.Event
-use Rattle.counters.specs.Rules
-use Rattle.transmit.specs.Transmit
+use Rattle.commands.specs.Verbs.{readRec, readIntf}
+use Rattle.commands.specs.Table
+use Rattle.refused.specs.Refused
 use Rattle.shown.specs.Shown
+use Rattle.done.specs.Done
+use Rattle.host.specs.Transfer
+use Rattle.promise.specs.Sequence.{Input, spi, wire, Given, replied, answered, Machine, shipped, number, run}
+use Rattle.promise.specs.Numbers.{row, lowest, said, numberGiven, Refused}
+use Rattle.promise.specs.Meaning.{Meaning, frame, reading as reads, clearing, other, means}
+use Rattle.promise.specs.Ledger.{Ledger, left, oldest, fields, due, hidden, buffered, Answers, ledger}
+use Rattle.promise.specs.Readings.{reading}
+use Rattle.promise.specs.Sums.{sum, ticks, seen, kindBits}
+use Rattle.promise.specs.Interrupts.{flags, together}
+use Rattle.promise.specs.Wrong.{onlyFirst, leisurely, roomFirst, takesTwo, shortTakes, resetKeeps, modeClears, showsAnother, hitAtRead, repliesZeros, ghost}
+use Rattle.promise.specs.Wrong.{codeClipped, blind, clearsFirst, refusesAll, changesNothing, madeUpRec, madeUpTec, madeUpGroups, errCleared, intfKept}
 
 -- ---- lists of numbers that differ
 
@@ -64,26 +67,39 @@ alike-self (x ∷ xs) = rw (eq-eqb x x refl) (alike-self xs)
 abbrev pub Sides : Type 0
 Sides = List ℕ × List ℕ
 
+abbrev pub allBytes : List Message → List ℕ
+allBytes [] = []
+allBytes (m ∷ ms) = m .bytes ++ allBytes ms
+
 abbrev pub wholeSides : Machine → List Input → Sides
-wholeSides w is = (length (ledger w is .taken ++ waiting (run w fresh is .rx)) ∷ [], length (ledger w is .accepted) ∷ [])
+wholeSides w is = (allBytes (ledger w is .taken ++ waiting (run w fresh is .rx)), allBytes (ledger w is .accepted))
 
 abbrev pub numbers : Given → List ℕ
 numbers (replied n buffer) = n ∷ buffer
 numbers (answered a) = number (answered a) ∷ said (answered a)
 
--- what is due, and what is given where nothing is
+-- what is given where nothing is to be said
+abbrev pub silent : Given → List ℕ
+silent (replied n buffer) = buffer
+silent (answered a) = []
+
+-- what is due, and the number given where none is
 abbrev pub numbersDue : Device → Ledger → List ℕ → Meaning → Given → List ℕ
 numbersDue d l buffer (frame h payload earlier) given = numbers (answered (Arrived (due d l h payload earlier)))
-numbersDue d l buffer (reading verb) given = numbers (pick (eqb (left l) 0) (replied 7 buffer) (replied 0 (putOf (fields verb (oldest l)) buffer)))
-numbersDue d l buffer clearing given = numbers given
-numbersDue d l buffer other given = numbers given
+numbersDue d l buffer (reads verb) given = numbers (pick (eqb (left l) 0) (replied 7 buffer) (replied 0 (putOf (fields verb (oldest l)) buffer)))
+numbersDue d l buffer clearing given = number given ∷ silent given
+numbersDue d l buffer other given = number given ∷ silent given
+
+says-nothing : (given : Given) → said given ≡ [] → numbers given ≡ number given ∷ silent given
+says-nothing (replied n buffer) is = refl
+says-nothing (answered a) is = ap (λ l. number (answered a) ∷ l) is
 
 pub given-due : (d : Device) (l : Ledger) (buffer : List ℕ) (m : Meaning) (given : Given)
     → Answers d l buffer m given → numbers given ≡ numbersDue d l buffer m given
 given-due d l buffer (frame h payload earlier) given is = ap numbers is
-given-due d l buffer (reading verb) given is = ap numbers is
-given-due d l buffer clearing given is = refl
-given-due d l buffer other given is = refl
+given-due d l buffer (reads verb) given is = ap numbers is
+given-due d l buffer clearing given is = says-nothing given (is .1)
+given-due d l buffer other given is = says-nothing given is
 
 abbrev pub dueSides : Machine → List Input → Input → Sides
 dueSides w is i = (
@@ -97,6 +113,10 @@ counts c = c .rec ∷ c .tec ∷ c .groups ∷ []
 abbrev pub countedSides : Machine → List Input → Sides
 countedSides w is = (counts (run w fresh is .counters), counts (sum w is))
 
+-- a register's reply in a buffer of one byte
+abbrev pub readSides : Machine → List Input → List ℕ → ℕ → Sides
+readSides w is bytes verb = (numbers (w (run w fresh is) (spi bytes (0 ∷ [])) .given), 0 ∷ putOf (reading w is verb) (0 ∷ []))
+
 abbrev pub queueSides : Machine → Device → Input → Sides
 queueSides w d i = (w d i .device .rx .count ∷ [], d .rx .count ∷ [])
 
@@ -107,6 +127,10 @@ normal = spi (0x14 ∷ 0x00 ∷ []) []
 
 abbrev pub scan : ℕ → Input
 scan byte = wire (GoodFrame (record { id = 0x123; extended = false; remote = false; code = 1 }) true 1) (byte ∷ replicate 7 0)
+
+-- with length code 9, and so eight bytes
+abbrev pub long : Input
+long = wire (GoodFrame (record { id = 0x123; extended = false; remote = false; code = 9 }) true 8) (replicate 8 0xAA)
 
 abbrev pub read : Input
 read = spi (0x48 ∷ []) (replicate 14 0xFF)
@@ -153,18 +177,22 @@ sides =
     dueSides showsAnother two read ∷
     dueSides hitAtRead filtersLater read ∷
     dueSides repliesZeros two read ∷
+    dueSides ghost (normal ∷ []) (wire BusQuiet []) ∷
+    wholeSides codeClipped (normal ∷ long ∷ []) ∷
+    readSides blind (normal ∷ wire (ReceiveError Bit) [] ∷ []) (0xEA ∷ []) readRec ∷
+    readSides clearsFirst (normal ∷ wire (ReceiveError Bit) [] ∷ []) (0xDE ∷ []) readIntf ∷
     countedSides madeUpRec (normal ∷ wire (ReceiveError Bit) [] ∷ []) ∷
     countedSides madeUpTec (spi (0x26 ∷ 0x05 ∷ []) [] ∷ []) ∷
     countedSides madeUpGroups busOff ∷
     (numberGiven refusesAll fresh readCtrl0 ∷ [], lowest (row fresh readCtrl0) ∷ []) ∷
     (run changesNothing fresh (wire (Ticks 1) [] ∷ []) .time ∷ [], ticks changesNothing (wire (Ticks 1) [] ∷ []) % 65536 ∷ []) ∷
-    (run errCleared fresh errorThenReset .regs .errs ∷ [], errBits (seen errCleared errorThenReset) ∷ []) ∷
+    (run errCleared fresh errorThenReset .regs .errs ∷ [], kindBits (seen errCleared errorThenReset) ∷ []) ∷
     (run intfKept fresh errorThenReset .regs .intf ∷ [], together 0 (flags intfKept errorThenReset) ∷ []) ∷
     queueSides shortTakes (run shipped fresh two) tooShort ∷
     (numberGiven shortTakes (run shipped fresh two) tooShort ∷ [], 0 ∷ []) ∷
     []
 
-differ : map (λ s. alike (s .0) (s .1)) sides ≡ replicate 18 false
+differ : map (λ s. alike (s .0) (s .1)) sides ≡ replicate 22 false
 unfolding Transfer.transfer Transfer.replyAfter Refused.lengthFits Refused.setsUp Refused.outsideSetUp Refused.findsFull Refused.readsMessage
     Refused.findsNone Refused.refusal Refused.rowJudged Refused.judged Proper.registersInRange Proper.sendingInRange Proper.actingInRange
     Proper.proper State.modeOf State.fresh State.enabled State.bank Queue.empty Queue.put Queue.take Queue.next Queue.inRange Table.rows
@@ -183,7 +211,7 @@ unfolding Transfer.transfer Transfer.replyAfter Refused.lengthFits Refused.setsU
     Transmit.countedCompletion Transmit.sent Shown.cut Shown.register Shown.shows
 differ = refl
 
-pub differs-at : (k : ℕ) → getD (map (λ s. alike (s .0) (s .1)) sides) k true ≡ getD (replicate 18 false) k true
+pub differs-at : (k : ℕ) → getD (map (λ s. alike (s .0) (s .1)) sides) k true ≡ getD (replicate 22 false) k true
 differs-at k = ap (λ (tests : List Bool). getD tests k true) differ
 
 pub apart : (s : Sides) → alike (s .0) (s .1) ≡ false → s .0 ≡ s .1 → ⊥

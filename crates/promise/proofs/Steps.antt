@@ -10,6 +10,11 @@ use Rattle.base.specs.Pick.{pick}
 use Rattle.base.specs.Put.{putOf}
 use Rattle.chip.specs.declared.Device.{Device}
 use Rattle.chip.specs.Proper.{proper}
+use Rattle.events.specs.declared.Event.{Event}
+use Rattle.judged.specs.declared.Answer.{Answer}
+use Rattle.judged.specs.declared.Answer.the-variants.{Refused as RefusedEvent}
+use Rattle.judged.specs.Judged.{impossible, said}
+use Rattle.bus.specs.Event.{answer, outcome, event}
 use Rattle.commands.specs.declared.Found.{Found}
 use Rattle.commands.specs.declared.Found.the-variants.{At, Nothing}
 use Rattle.commands.specs.declared.Row.{Row}
@@ -21,11 +26,6 @@ use Rattle.refused.proofs.Accepted.{accepted-found}
 use Rattle.shown.specs.Shown.{shows}
 use Rattle.done.specs.Done.{does}
 use Rattle.host.specs.Transfer.{transfer, replyAfter, reply, outcome as hostOutcome}
-use Rattle.events.specs.declared.Event.{Event}
-use Rattle.judged.specs.declared.Answer.{Answer}
-use Rattle.judged.specs.declared.Answer.the-variants.{Refused as RefusedEvent}
-use Rattle.judged.specs.Judged.{impossible, said}
-use Rattle.bus.specs.Event.{answer, outcome, event}
 use Rattle.promise.specs.Sequence.{Input, spi, wire, replied, answered, Step, shipped as step, number, run, along}
 
 -- what every step keeps holds after every sequence

@@ -10,20 +10,19 @@ use Rattle.base.specs.Pick.{pick}
 use Rattle.frame.specs.declared.Header.{Header}
 use Rattle.chip.specs.declared.Device.{Device}
 use Rattle.chip.specs.State.{fresh, monitor}
-use Rattle.commands.specs.Verbs.{resetTime, masterReset, writeCtrl0 as writesCtrl0}
 use Rattle.flags.specs.Flags.{raised, busError}
 use Rattle.flags.specs.Reset.{reset}
 use Rattle.transmit.specs.Transmit.{stopped, begun, sent}
 use Rattle.receive.specs.declared.Arrival.{Arrival}
 use Rattle.receive.specs.Receive.{arrived}
 use Rattle.events.specs.declared.Event.{Event}
-use Rattle.events.specs.declared.Event.the-variants.{GoodFrame, ReceiveError, DominantBit, TransmitError, Begun, Completed}
-use Rattle.events.specs.declared.Event.the-variants.{ArbitrationLost, ElevenRecessive, BusQuiet, BusActivity, Ticks, TxenPin}
-use Rattle.events.specs.declared.Event.the-variants.{MasterReset, Unknown}
+use Rattle.events.specs.declared.Event.the-variants.{GoodFrame, ReceiveError, DominantBit, TransmitError, Begun, Completed, ArbitrationLost, ElevenRecessive}
+use Rattle.events.specs.declared.Event.the-variants.{BusQuiet, BusActivity, Ticks, TxenPin, MasterReset, Unknown}
 use Rattle.changed.specs.Changed.{after, reachesBuffer, frameAfter, heard, echoed, errorReceived, dominantMet, errorSent, recessiveMet, ticked as tickedOn, pinSet}
+use Rattle.commands.specs.Verbs.{resetTime, masterReset, writeCtrl0 as writesCtrl0}
 use Rattle.promise.specs.Promises.{TheTimeTagIsTheTicks}
 use Rattle.promise.specs.Sequence.{Input, spi, wire, Step, shipped as step}
-use Rattle.promise.specs.Sums.{ticked, ticksAfter}
+use Rattle.promise.specs.Sums.{clocked, ticksAfter}
 use Rattle.promise.proofs.Among.{_and_}
 use Rattle.promise.proofs.Choices.{pick-keeps}
 use Rattle.promise.proofs.Steps.{keeps}
@@ -37,7 +36,7 @@ pick-time false time ticks same = same
 
 module _ (d : Device) (t : ℕ) (same : d .time ≡ t % 65536) where
   abbrev Timely : Input → Step → Type 0
-  Timely i s = s .device .time ≡ ticked t i (s .given) % 65536
+  Timely i s = s .device .time ≡ clocked t i (s .given) % 65536
 
   on-spi : (bytes buffer : List ℕ) → Timely (spi bytes buffer) (step d (spi bytes buffer))
   on-spi bytes buffer =
@@ -86,6 +85,6 @@ module _ (d : Device) (t : ℕ) (same : d .time ≡ t % 65536) where
 pub timed : TheTimeTagIsTheTicks
 unfolding fresh
 timed is =
-    keeps (λ d t i. ticked t i (step d i .given)) (λ d t. d .time ≡ t % 65536)
+    keeps (λ d t i. clocked t i (step d i .given)) (λ d t. d .time ≡ t % 65536)
     (λ d t i same. on d t same i)
     fresh 0 is refl

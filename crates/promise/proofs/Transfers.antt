@@ -2,9 +2,9 @@
 use mathlib.Core.Path.{_≡_, refl, sym, _∙_, ap}
 use mathlib.Core.Bool.{Bool, true, false, not, _&&_, _||_, false≢true}
 use mathlib.Core.List.{List}
-use Prim.Native.Nat.{ℕ, suc, _<_, _≤_, _+_, _-_}
+use Prim.Native.Nat.{ℕ, suc, _<_, _≤_, _-_}
 use native.Mathlib.Omega.{arith}
-use borrow.Author.Tests.{leb-true, eqb-true, eqb-false, ne-eqb, not-true, not-false}
+use borrow.Author.Tests.{eqb-true, eqb-false, not-true, not-false}
 use lib.Dec.{eqb, ltb}
 use lib.ListN.{length, take}
 use Rattle.base.specs.Bit.{byte, isSet}
@@ -14,21 +14,20 @@ use Rattle.base.proofs.Booleans.{and-left, and-right}
 use Rattle.fifo.specs.declared.Fifo.{Fifo}
 use Rattle.fifo.specs.Queue.{empty, next, take as takeOff}
 use Rattle.chip.specs.declared.Device.{Device}
-use Rattle.chip.specs.Proper.{proper}
 use Rattle.chip.specs.State.{fresh, modeOf, sleep}
+use Rattle.flags.specs.Flags.{raised}
+use Rattle.flags.specs.Reset.{reset}
+use Rattle.transmit.specs.Transmit.{aborted, cleared, stopped}
+use Rattle.modes.specs.Modes.{put-ctrl0, changed, writeCtrl0}
 use Rattle.commands.specs.declared.Found.{Found}
 use Rattle.commands.specs.declared.Found.the-variants.{At, Nothing}
 use Rattle.commands.specs.declared.Row.{Row}
 use Rattle.commands.specs.Table.{rows, lookup}
 use Rattle.commands.specs.Verbs.{readMessageWithTime, readMessage, readDataWithTime, readData, masterReset, clearReceive, writeCtrl0 as writesCtrl0}
-use Rattle.refused.specs.Refused.{lengthFits, setsUp, outsideSetUp, findsFull, readsMessage, findsNone}
-use Rattle.flags.specs.Flags.{raised}
-use Rattle.flags.specs.Reset.{reset}
-use Rattle.transmit.specs.Transmit.{aborted, cleared, stopped}
-use Rattle.modes.specs.Modes.{put-ctrl0, changed, writeCtrl0}
+use Rattle.refused.specs.Refused.{lengthFits, setsUp, findsFull, readsMessage, findsNone}
 use Rattle.shown.specs.Shown.{shows}
-use Rattle.done.specs.Done.{registerChanged, messageTaken, entryTaken, receiveCleared, timeReset, messageWritten}
-use Rattle.done.specs.Done.{filterWritten, maskWritten, recWritten, tecWritten, deeds, does}
+use Rattle.done.specs.Done.{registerChanged, messageTaken, entryTaken, receiveCleared, timeReset, messageWritten, filterWritten, maskWritten, recWritten, tecWritten}
+use Rattle.done.specs.Done.{deeds, does}
 use Rattle.promise.specs.Sequence.{spi, replied, Step, shipped as step, number}
 use Rattle.promise.specs.Numbers.{row, lowest}
 use Rattle.promise.specs.Meaning.{Meaning, frame, reading, clearing, other, meanings, commandMeans, means}
@@ -36,6 +35,7 @@ use Rattle.promise.specs.Ledger.{Ledger, hidden}
 use Rattle.promise.proofs.Among.{_and_, among-keeps, among-outside}
 use Rattle.promise.proofs.Choices.{pick-keeps, pick-under}
 use Rattle.promise.proofs.Answered.{first}
+use Rattle.promise.proofs.LastChecks.{last, fit-number, read-last, never-last}
 use Rattle.promise.proofs.Lowest.{lowest-none}
 use Rattle.promise.proofs.Kept.{Sized, Kept, Agrees, other-agrees, clear-agrees, none-agrees, read-agrees, next-sized}
 use Rattle.promise.proofs.CommandsFit.{does-in}
@@ -43,45 +43,10 @@ use Rattle.promise.proofs.Ranges.{ranges-proper}
 use Rattle.promise.proofs.Replies.{outFits, row-out, Shows, shows-all, shows-message, shows-data-timed, shows-data}
 use Rattle.promise.proofs.Steps.{refusedTransfer, doneTransfer, by-transfer}
 
--- ---- the numbers 5 to 7, which are all that is left to ask of a command of the right length with room for its reply
-
-module _ (d : Device) where
-  last : ℕ → ℕ
-  last verb =
-      pick (outsideSetUp (d .acting) verb) 5
-      (pick (findsFull (d .tx .count) verb) 6
-      (pick (findsNone (d .rx .count) (d .history .count) verb) 7
-      0))
-
-  some-bytes : (r : Row) (bytes : List ℕ) → lengthFits r bytes ≡ true → eqb (length bytes) 0 ≡ false
-  unfolding lengthFits
-  some-bytes r bytes fits = ne-eqb (length bytes) 0 (λ none. omega (arith, leb-true (r .least + 1) (length bytes) (and-left _ _ fits)))
-
-  fit-number : (bytes buffer : List ℕ) (r : Row) → proper d ≡ true → lookup rows (byte bytes 1) ≡ At r
-      → lengthFits r bytes ≡ true → ltb (length buffer) (r .out) ≡ false → lowest (row d (spi bytes buffer)) ≡ last (r .verb)
-  unfolding last
-  fit-number bytes buffer r is-proper at fits room =
-      rw (is-proper, at, some-bytes r bytes fits, fits, room)
-
-  never-set-up : (verb : ℕ) → setsUp verb ≡ false → outsideSetUp (d .acting) verb ≡ false
-  unfolding outsideSetUp
-  never-set-up verb none = pick-under (λ (b : Bool). b ≡ false) (eqb (d .acting) 4) _ _ (λ inside. refl) (λ out. none)
-
-  -- a command that reads a message is refused only when none waits
-  read-last : (verb : ℕ) → setsUp verb ≡ false → findsFull (d .tx .count) verb ≡ false → readsMessage verb ≡ true
-      → last verb ≡ pick (eqb (d .rx .count) 0) 7 0
-  unfolding last findsNone
-  read-last verb set full reads = rw (never-set-up verb set, full, reads)
-
-  -- and one that clears never
-  clear-last : (verb : ℕ) → setsUp verb ≡ false → findsFull (d .tx .count) verb ≡ false → findsNone (d .rx .count) (d .history .count) verb ≡ false
-      → last verb ≡ 0
-  unfolding last
-  clear-last verb set full none = rw (never-set-up verb set, full, none)
-
-  seven : (t : Bool) (n count : ℕ) → eqb count 0 ≡ t → n ≡ pick t 7 0 → eqb n 0 ≡ false → (n ≡ 7) × (count ≡ 0)
-  seven true n count e is some = (is, eqb-true count 0 e)
-  seven false n count e is some = absurd (eqb-false n 0 some is)
+-- a read's refusal, if it has room for its reply
+seven : (t : Bool) (n count : ℕ) → eqb count 0 ≡ t → n ≡ pick t 7 0 → eqb n 0 ≡ false → (n ≡ 7) × (count ≡ 0)
+seven true n count e is some = (is, eqb-true count 0 e)
+seven false n count e is some = absurd (eqb-false n 0 some is)
 
 module _ (d : Device) (l : Ledger) (h : Kept d l) (bytes buffer : List ℕ) where
   -- ---- a transfer that is refused
@@ -91,19 +56,19 @@ module _ (d : Device) (l : Ledger) (h : Kept d l) (bytes buffer : List ℕ) wher
     Refusal verb m = n ≡ last d verb → Agrees d l buffer m (refusedTransfer d n buffer)
 
     left-alone : Agrees d l buffer other (refusedTransfer d n buffer)
-    left-alone = other-agrees d l h buffer d (replied n buffer) (h .range) refl
+    left-alone = other-agrees d l h buffer d (replied n buffer) (h .range) refl refl
 
     refused-read : (verb : ℕ) → setsUp verb ≡ false → findsFull (d .tx .count) verb ≡ false → readsMessage verb ≡ true
         → (read : ℕ) → Refusal verb (reading read)
     unfolding Refusal
     refused-read verb set full reads read is =
-        let both = seven d (eqb (d .rx .count) 0) n (d .rx .count) refl (is ∙ read-last d verb set full reads) some in
+        let both = seven (eqb (d .rx .count) 0) n (d .rx .count) refl (is ∙ read-last d verb set full reads) some in
         rw (both .0) (none-agrees d l h buffer read (both .1))
 
     refused-clear : (verb : ℕ) (m : Meaning) → setsUp verb ≡ false → findsFull (d .tx .count) verb ≡ false
         → findsNone (d .rx .count) (d .history .count) verb ≡ false → Refusal verb m
     unfolding Refusal
-    refused-clear verb m set full none is = absurd (eqb-false n 0 some (is ∙ clear-last d verb set full none))
+    refused-clear verb m set full none is = absurd (eqb-false n 0 some (is ∙ never-last d verb set full none))
 
     refused-verb : (verb : ℕ) → Refusal verb (among verb (meanings bytes) other)
     unfolding Refusal setsUp findsFull readsMessage findsNone
@@ -191,11 +156,11 @@ module _ (d : Device) (l : Ledger) (h : Kept d l) (bytes buffer : List ℕ) wher
 
     doing-clear : (verb : ℕ) → does d verb k bytes .rx ≡ empty → Doing verb clearing
     unfolding Doing
-    doing-clear verb rx out fits some = clear-agrees d l h buffer (does d verb k bytes) _ (does-in d (h .range) verb k bytes) rx refl
+    doing-clear verb rx out fits some = clear-agrees d l h buffer (does d verb k bytes) _ (does-in d (h .range) verb k bytes) rx refl refl
 
     doing-other : (verb : ℕ) → does d verb k bytes .rx ≡ d .rx → Doing verb other
     unfolding Doing
-    doing-other verb rx out fits some = other-agrees d l h buffer (does d verb k bytes) _ (does-in d (h .range) verb k bytes) rx
+    doing-other verb rx out fits some = other-agrees d l h buffer (does d verb k bytes) _ (does-in d (h .range) verb k bytes) rx refl
 
     doing-verb : (verb : ℕ) → Doing verb (among verb (meanings bytes) other)
     unfolding moved readsMessage

@@ -14,9 +14,8 @@ use Rattle.flags.specs.Flags.{rxtmp, rxfifo, txcplt, buserr, mchg, wakeupFlag, 
 use Rattle.receive.specs.declared.Arrival.{Arrival}
 use Rattle.receive.specs.Receive.{hit, isQueued}
 use Rattle.events.specs.declared.Event.{Event}
-use Rattle.events.specs.declared.Event.the-variants.{GoodFrame, ReceiveError, DominantBit, TransmitError, Begun, Completed}
-use Rattle.events.specs.declared.Event.the-variants.{ArbitrationLost, ElevenRecessive, BusQuiet, BusActivity, Ticks, TxenPin}
-use Rattle.events.specs.declared.Event.the-variants.{MasterReset, Unknown}
+use Rattle.events.specs.declared.Event.the-variants.{GoodFrame, ReceiveError, DominantBit, TransmitError, Begun, Completed, ArbitrationLost, ElevenRecessive}
+use Rattle.events.specs.declared.Event.the-variants.{BusQuiet, BusActivity, Ticks, TxenPin, MasterReset, Unknown}
 use Rattle.judged.specs.declared.Answer.the-variants.{Refused, Done, Arrived}
 use Rattle.changed.specs.Changed.{reachesBuffer}
 use Rattle.commands.specs.Verbs.{readIntf}

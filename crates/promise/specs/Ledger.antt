@@ -6,17 +6,17 @@ use mathlib.Core.List.{List, [], _∷_, _++_, map}
 use Prim.Native.Nat.{ℕ, _-_, _%_}
 use lib.Dec.{eqb, leb}
 use lib.ListN.{length, getD}
-use Rattle.base.specs.Bit.{byte}
+use Rattle.base.specs.Bit.{byte, isSet}
 use Rattle.base.specs.Pick.{pick, among}
 use Rattle.base.specs.Put.{putOf}
+use Rattle.fifo.specs.declared.Message.{Message}
+use Rattle.fifo.specs.Queue.{empty, absent, waiting}
 use Rattle.frame.specs.declared.Header.{Header}
 use Rattle.frame.specs.Length.{possible, dataOf}
 use Rattle.frame.specs.Received.{headerIn, dataIn, timeIn, filterIn}
 use Rattle.filter.specs.Lowest.{filhit}
 use Rattle.filter.specs.declared.Hit.{Hit}
 use Rattle.filter.specs.declared.Hit.the-variants.{Filter, Nothing}
-use Rattle.fifo.specs.declared.Message.{Message}
-use Rattle.fifo.specs.Queue.{empty, absent, waiting}
 use Rattle.chip.specs.declared.Device.{Device}
 use Rattle.chip.specs.Parts.{with-rx}
 use Rattle.chip.specs.State.{fresh, filton}
@@ -25,6 +25,7 @@ use Rattle.receive.specs.declared.Arrival.the-variants.{Queued, A4, A5}
 use Rattle.receive.specs.Receive.{hit, message, isQueued}
 use Rattle.judged.specs.declared.Answer.the-variants.{Refused, Done, Arrived}
 use Rattle.commands.specs.Verbs.{readMessageWithTime, readMessage, readDataWithTime, readData}
+use Rattle.promise.specs.Numbers.{said}
 use Rattle.promise.specs.Meaning.{Reason, Meaning, frame, reading, clearing, other, means}
 use Rattle.promise.specs.Sequence.{Input, spi, wire, Given, replied, answered, Machine, number, run, along}
 
@@ -37,7 +38,7 @@ pub record Ledger : Type 0 where
 abbrev pub start : Ledger
 start = record { accepted = []; taken = [] }
 
--- "the frames accepted since then less the messages taken by reads since then"
+-- how many wait, by the ledger: the frames accepted less the messages that reads took
 abbrev pub left : Ledger → ℕ
 left l = length (l .accepted) - length (l .taken)
 
@@ -94,11 +95,11 @@ saysQueued (answered (Refused n)) = false
 saysQueued (answered Done) = false
 saysQueued (answered (Arrived what)) = isQueued what
 
-abbrev pub heard : Device → Meaning → Given → Entry
-heard d (frame h payload earlier) given = pick (saysQueued given) (accepts (message d h payload)) nothing
-heard d (reading verb) given = pick (eqb (number given) 0) takes nothing
-heard d clearing given = pick (eqb (number given) 0) clears nothing
-heard d other given = nothing
+abbrev pub told : Device → Meaning → Given → Entry
+told d (frame h payload earlier) given = pick (saysQueued given) (accepts (message d h payload)) nothing
+told d (reading verb) given = pick (eqb (number given) 0) takes nothing
+told d clearing given = pick (eqb (number given) 0) clears nothing
+told d other given = nothing
 
 -- the bytes of a message that a read shows, by Table 5's numbers: 0x46 all, 0x48 "1 and 4 to 16", 0x4A "1 to 3 and 9 to 16", 0x4C "1 and 9 to 16"
 abbrev pub places : ℕ → List ℕ
@@ -118,17 +119,18 @@ abbrev pub buffered : Input → List ℕ
 buffered (spi bytes buffer) = buffer
 buffered (wire e payload) = []
 
--- The answer that is due: a frame's first true reason; a read's oldest message, as it arrived, or 7 and nothing.
+-- The answer that is due: a frame's first true reason; a read's oldest message, as it arrived, or 7 and nothing. Nothing but a frame is told Queued or a reason.
 abbrev pub Answers : Device → Ledger → List ℕ → Meaning → Given → Type 0
 Answers d l buffer (frame h payload earlier) given = given ≡ answered (Arrived (due d l h payload earlier))
 Answers d l buffer (reading verb) given =
     given ≡ pick (eqb (left l) 0) (replied 7 buffer) (replied 0 (putOf (fields verb (oldest l)) buffer))
-Answers d l buffer clearing given = number given ≡ 0
-Answers d l buffer other given = Unit {0}
+Answers d l buffer clearing given = (number given ≡ 0) × (said given ≡ [])
+Answers d l buffer other given = said given ≡ []
 
--- the fields of a frame, read in the sixteen bytes of a message: identifier, kind, remote and code; data; time tag and hit at arrival
+-- the fields of a frame, read in the sixteen bytes of a message: identifier, kind, remote and code; the kind in byte 1; data; time tag and hit at arrival
 pub record Shows (d : Device) (h : Header) (payload : List ℕ) (m : Message) : Type 0 where
   pub header : headerIn (m .bytes) ≡ h
+  pub kind : isSet 7 (byte (m .bytes) 1) ≡ h .extended
   pub eight : dataIn (m .bytes) ≡ dataOf h payload
   pub time : timeIn (m .bytes) ≡ d .time
   pub match : filterIn (m .bytes) ≡ filhit (hit d h payload) % 8
@@ -146,9 +148,9 @@ module _ (step : Machine) where
 
   -- kept from what was answered
   abbrev pub ledgerOfAnswers : List Input → Ledger
-  ledgerOfAnswers = along step (λ d l i. entered l (heard (hidden d) (means (hidden d) i) (step d i .given))) fresh start
+  ledgerOfAnswers = along step (λ d l i. entered l (told (hidden d) (means (hidden d) i) (step d i .given))) fresh start
 
-  -- "the messages that reads took, then those still waiting, are exactly the good frames that 01 accepts since the last clearing"
+  -- The messages that reads took, then those still waiting, are exactly the good frames that 01 accepts since the last clearing.
   abbrev pub Whole : Type 0
   Whole = (is : List Input) → ledger is .taken ++ waiting (run step fresh is .rx) ≡ ledger is .accepted
 
@@ -157,6 +159,6 @@ module _ (step : Machine) where
   Due = (is : List Input) (i : Input)
       → Answers (hidden (run step fresh is)) (ledger is) (buffered i) (means (hidden (run step fresh is)) i) (step (run step fresh is) i .given)
 
-  -- "the ledger kept from the answers actually given is the same ledger"
+  -- The ledger kept from the answers actually given is the same ledger.
   abbrev pub Same : Type 0
   Same = (is : List Input) → ledgerOfAnswers is ≡ ledger is

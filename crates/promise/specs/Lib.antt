@@ -7,3 +7,4 @@ pub mod Interrupts
 pub mod Wrong
 pub mod Worked
 pub mod Promises
+pub mod Readings

@@ -11,13 +11,14 @@ use Rattle.base.specs.Pick.{pick, among}
 use Rattle.chip.specs.declared.Device.{Device}
 use Rattle.chip.specs.Proper.{proper}
 use Rattle.chip.specs.State.{fresh}
+use Rattle.judged.specs.declared.Answer.the-variants.{Refused as RefusedEvent}
+use Rattle.judged.specs.Judged.{impossible}
+use Rattle.bus.specs.Event.{valuesOf}
 use Rattle.commands.specs.declared.Found.{Found}
 use Rattle.commands.specs.declared.Found.the-variants.{At, Nothing}
 use Rattle.commands.specs.declared.Row.{Row}
 use Rattle.commands.specs.Table.{rows, lookup}
 use Rattle.refused.specs.Refused.{lengthFits, outsideSetUp, findsFull, findsNone}
-use Rattle.judged.specs.Judged.{impossible}
-use Rattle.bus.specs.Event.{valuesOf}
 use Rattle.promise.specs.Sequence.{Input, spi, wire, Given, replied, answered, Step, Machine, number, run}
 
 -- whether a search found a command's row, and the row has a property
@@ -60,10 +61,10 @@ abbrev pub said : Given → List ℕ
 said (replied n buffer) = []
 said (answered a) = valuesOf a
 
--- what a refusal leaves: the device as it came, the lent buffer as it came, and nothing said but the number
+-- what a refusal leaves: the device as it came, the lent buffer as it came, and nothing given but the number
 abbrev pub Untouched : Device → Input → Step → Type 0
 Untouched d (spi bytes buffer) s = s ≡ record { device = d; given = replied (number (s .given)) buffer }
-Untouched d (wire e payload) s = (s .device ≡ d) × (said (s .given) ≡ [])
+Untouched d (wire e payload) s = s ≡ record { device = d; given = answered (RefusedEvent (number (s .given))) }
 
 -- ---- the promises
 

@@ -5,6 +5,7 @@ use Rattle.promise.specs.Numbers.{Answered, First, Exactly, Refused, Nev
 use Rattle.promise.specs.Ledger.{Whole, Due, Same, AsArrived}
 use Rattle.promise.specs.Sums.{Counted, Timed, Seen}
 use Rattle.promise.specs.Interrupts.{Raised}
+use Rattle.promise.specs.Readings.{Read}
 use Rattle.promise.specs.Worked.{Worked}
 
 -- ---- demand 1 (Numbers)
@@ -24,7 +25,7 @@ ARefusalChangesNothing = Refused shipped
 abbrev pub OneIsNeverGiven : Type 0
 OneIsNeverGiven = NeverOne shipped
 
--- ---- demand 2, over sequences (Sums, Interrupts)
+-- ---- demand 2, over sequences (Sums, Interrupts, Readings)
 
 abbrev pub CountersAreTheRulesSum : Type 0
 CountersAreTheRulesSum = Counted shipped
@@ -37,6 +38,9 @@ ErrIsTheKindsSeen = Seen shipped
 
 abbrev pub IntfIsTheFlagsRaised : Type 0
 IntfIsTheFlagsRaised = Raised shipped
+
+abbrev pub RegistersReadAsSummed : Type 0
+RegistersReadAsSummed = Read shipped
 
 -- ---- demand 3 (Ledger)
 

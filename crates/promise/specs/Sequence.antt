@@ -6,8 +6,8 @@ use lib.ListN.{length}
 use Rattle.chip.specs.declared.Device.{Device}
 use Rattle.events.specs.declared.Event.{Event}
 use Rattle.judged.specs.declared.Answer.{Answer}
-use Rattle.host.specs.Transfer.{transfer, replyAfter}
 use Rattle.bus.specs.Event.{event, numberOf}
+use Rattle.host.specs.Transfer.{transfer, replyAfter}
 
 pub data Input : Type 0 where
   -- a transfer's bytes, and what the lent buffer holds

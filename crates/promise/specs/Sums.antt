@@ -1,5 +1,5 @@
--- Demand 2, over sequences: counters, time tag, ERR and INTF are what 01's rules make of all that happened. Each is written down along the
--- sequence from the inputs, their answers and, where a rule asks for it, the acting mode, and never read off the device.
+-- Demand 2, over sequences: counters, time tag and ERR are what 01's rules make of all that happened. Each is written down along the sequence from the
+-- inputs and their answers; the counters' rules also ask the device for its acting mode and for BOR. None reads the part that it speaks of.
 use mathlib.Core.Path.{_≡_}
 use mathlib.Core.Bool.{Bool, false, not, _&&_, _||_}
 use mathlib.Core.List.{List, [], _∷_, _++_}
@@ -13,9 +13,8 @@ use Rattle.counters.specs.Rules.{zeroed, receiveError, dominantBit, goodFrame, 
 use Rattle.chip.specs.State.{fresh, normal, monitor, bor}
 use Rattle.events.specs.declared.ErrorKind.{ErrorKind}
 use Rattle.events.specs.declared.Event.{Event}
-use Rattle.events.specs.declared.Event.the-variants.{GoodFrame, ReceiveError, DominantBit, TransmitError, Begun, Completed}
-use Rattle.events.specs.declared.Event.the-variants.{ArbitrationLost, ElevenRecessive, BusQuiet, BusActivity, Ticks, TxenPin}
-use Rattle.events.specs.declared.Event.the-variants.{MasterReset, Unknown}
+use Rattle.events.specs.declared.Event.the-variants.{GoodFrame, ReceiveError, DominantBit, TransmitError, Begun, Completed, ArbitrationLost, ElevenRecessive}
+use Rattle.events.specs.declared.Event.the-variants.{BusQuiet, BusActivity, Ticks, TxenPin, MasterReset, Unknown}
 use Rattle.judged.specs.declared.Answer.the-variants.{Refused, Done, Arrived}
 use Rattle.changed.specs.Changed.{errBit, reachesBuffer}
 use Rattle.commands.specs.Verbs.{readErr, masterReset, resetTime, writeCtrl0, writeRec as writesRec, writeTec as writesTec}
@@ -100,14 +99,14 @@ ticksAfter t BusActivity = t
 ticksAfter t (TxenPin level) = t
 ticksAfter t Unknown = t
 
-abbrev pub ticked : ℕ → Input → Given → ℕ
-ticked t (spi bytes buffer) given = pick (done given && (asks resetTime bytes || resetAsked bytes)) 0 t
-ticked t (wire e payload) given = pick (done given) (ticksAfter t e) t
+abbrev pub clocked : ℕ → Input → Given → ℕ
+clocked t (spi bytes buffer) given = pick (done given && (asks resetTime bytes || resetAsked bytes)) 0 t
+clocked t (wire e payload) given = pick (done given) (ticksAfter t e) t
 
 abbrev pub ticks : Machine → List Input → ℕ
-ticks step = along step (λ d t i. ticked t i (step d i .given)) fresh 0
+ticks step = along step (λ d t i. clocked t i (step d i .given)) fresh 0
 
--- "the time tag is the ticks since it was last reset, modulo 65536"
+-- The time tag is the ticks since it was last reset, modulo 65536.
 abbrev pub Timed : Machine → Type 0
 Timed step = (is : List Input) → run step fresh is .time ≡ ticks step is % 65536
 
@@ -138,9 +137,9 @@ abbrev pub seen : Machine → List Input → List ErrorKind
 seen step = along step (λ d kinds i. seenAfter kinds i (step d i .given)) fresh []
 
 -- a bit for each
-abbrev pub errBits : List ErrorKind → ℕ
-errBits [] = 0
-errBits (kind ∷ kinds) = bitOr (errBits kinds) (errBit kind)
+abbrev pub kindBits : List ErrorKind → ℕ
+kindBits [] = 0
+kindBits (kind ∷ kinds) = bitOr (kindBits kinds) (errBit kind)
 
 abbrev pub Seen : Machine → Type 0
-Seen step = (is : List Input) → run step fresh is .regs .errs ≡ errBits (seen step is)
+Seen step = (is : List Input) → run step fresh is .regs .errs ≡ kindBits (seen step is)

@@ -1,14 +1,14 @@
 -- Devices that the promises rule out: the shipped one, but for one thing. `proofs/RuledOut` shows of each a sequence on which it
 -- breaks its promise.
 use mathlib.Core.Bool.{not, _&&_}
-use mathlib.Core.List.{_∷_, map}
-use Prim.Native.Nat.{_%_}
+use mathlib.Core.List.{_∷_, _++_, map}
+use Prim.Native.Nat.{_%_, min}
 use lib.Dec.{eqb, ltb}
-use lib.ListN.{drop, set}
+use lib.ListN.{drop, set, take as firstBytes}
 use Rattle.base.specs.Bit.{byte, isSet}
 use Rattle.base.specs.Pick.{pick}
 use Rattle.counters.specs.declared.Counters.{Counters}
-use Rattle.counters.specs.Rules.{with-rec, with-tec, with-groups}
+use Rattle.counters.specs.Rules.{zeroed, with-rec, with-tec, with-groups}
 use Rattle.fifo.specs.declared.Fifo.{Fifo}
 use Rattle.fifo.specs.declared.Message.{Message}
 use Rattle.fifo.specs.Queue.{empty, isEmpty, full, next, take}
@@ -16,14 +16,15 @@ use Rattle.frame.specs.Received.{headerIn, dataIn}
 use Rattle.chip.specs.declared.Device.{Device}
 use Rattle.chip.specs.declared.Registers.{Registers}
 use Rattle.chip.specs.Parts.{with-rx, with-counters, with-regs, with-errs, with-intf}
-use Rattle.receive.specs.declared.Arrival.the-variants.{A5}
+use Rattle.receive.specs.declared.Arrival.the-variants.{Queued, A5}
 use Rattle.receive.specs.Receive.{message}
-use Rattle.judged.specs.declared.Answer.the-variants.{Arrived}
+use Rattle.judged.specs.declared.Answer.the-variants.{Refused, Done, Arrived}
+use Rattle.refused.specs.Refused.{readsMessage}
 use Rattle.host.specs.Transfer.{replyAfter}
 use Rattle.promise.specs.Sequence.{Input, spi, wire, Given, replied, answered, Step, Machine, shipped, number}
-use Rattle.promise.specs.Numbers.{said}
+use Rattle.promise.specs.Numbers.{command, said}
 use Rattle.promise.specs.Ledger.{saysQueued}
-use Rattle.promise.specs.Sums.{resetAsked}
+use Rattle.promise.specs.Sums.{done, resetAsked}
 
 -- the shipped device, but for what a change makes of each step
 abbrev pub but : (Device → Input → Step → Step) → Machine
@@ -40,7 +41,7 @@ with-queue s q = with-device s (with-rx (s .device) q)
 
 -- ---- queue and answers
 
--- 01: "a device that queues the first frame truly and only says Queued for the others"
+-- 01: "a device that queues the first frame truly and only says Queued for the others": those that find one waiting
 abbrev pub onlyFirst : Machine
 onlyFirst = but (λ d i s. pick (saysQueued (s .given) && not (isEmpty (d .rx))) (with-queue s (d .rx)) s)
 
@@ -48,7 +49,7 @@ onlyFirst = but (λ d i s. pick (saysQueued (s .given) && not (isEmpty (d .rx)))
 abbrev pub leisurely : Machine
 leisurely = but (λ d i s. pick (saysQueued (s .given) && isSet 0 (d .time)) (with-given (with-queue s (d .rx)) (answered (Arrived A5))) s)
 
--- "The room test is made before the filters, so a stranger's frame is answered A5."
+-- 01: "The room test is made before the filters, so a stranger's frame is answered A5."
 abbrev pub roomFirst : Machine
 roomFirst = but (λ d i s. pick (full (d .rx) && eqb (byte (said (s .given)) 1) 4) (with-given s (answered (Arrived A5))) s)
 
@@ -56,19 +57,43 @@ roomFirst = but (λ d i s. pick (full (d .rx) && eqb (byte (said (s .given)) 1) 
 abbrev pub takesTwo : Machine
 takesTwo = but (λ d i s. pick (ltb (s .device .rx .count) (d .rx .count)) (with-queue s (take (s .device .rx))) s)
 
--- "A read with too short a buffer takes the message off."
+-- 01: "A read with too short a buffer takes the message off."
 abbrev pub shortTakes : Machine
-shortTakes = but (λ d i s. pick (eqb (number (s .given)) 4) (with-queue s (take (d .rx))) s)
+shortTakes d (spi bytes buffer) =
+    let s : Step = shipped d (spi bytes buffer) in
+    pick (eqb (number (s .given)) 4 && command bytes (λ r. readsMessage (r .verb))) (with-queue s (take (d .rx))) s
+shortTakes d (wire e payload) = shipped d (wire e payload)
+
+-- 01: "The length code 9 … is stored as 8."
+abbrev pub clipped : Message → Message
+clipped m = record { bytes = firstBytes 7 (m .bytes) ++ min (byte (m .bytes) 8) 8 ∷ drop 8 (m .bytes) }
+
+abbrev pub codeClipped : Machine
+codeClipped = but (λ d i s. with-queue s (record { items = map clipped (s .device .rx .items); first = s .device .rx .first; count = s .device .rx .count }))
+
+-- one that says Queued where no frame came
+abbrev pub boast : Given → Given
+boast (replied n buffer) = replied n buffer
+boast (answered (Refused n)) = answered (Refused n)
+boast (answered Done) = answered (Arrived Queued)
+boast (answered (Arrived what)) = answered (Arrived what)
+
+abbrev pub ghost : Machine
+ghost = but (λ d i s. with-given s (boast (s .given)))
 
 -- a reset that keeps the queue
 abbrev pub resetKeeps : Machine
 resetKeeps d (spi bytes buffer) =
-    pick (resetAsked bytes) (with-queue (shipped d (spi bytes buffer)) (d .rx)) (shipped d (spi bytes buffer))
+    let s : Step = shipped d (spi bytes buffer) in
+    pick (done (s .given) && resetAsked bytes) (with-queue s (d .rx)) s
 resetKeeps d (wire e payload) = shipped d (wire e payload)
 
 -- a mode write that clears it
 abbrev pub modeClears : Machine
-modeClears = but (λ d i s. pick (eqb (d .acting) (s .device .acting)) s (with-queue s empty))
+modeClears d (spi bytes buffer) =
+    let s : Step = shipped d (spi bytes buffer) in
+    pick (eqb (d .acting) (s .device .acting)) s (with-queue s empty)
+modeClears d (wire e payload) = shipped d (wire e payload)
 
 -- ---- replies
 
@@ -96,12 +121,20 @@ hitAtRead =
     }))
 
 -- 01: "one that replies zeros always"
-abbrev pub zeroed : Given → Given
-zeroed (replied n buffer) = replied n (map (λ b. 0) buffer)
-zeroed (answered a) = answered a
+abbrev pub blank : Given → Given
+blank (replied n buffer) = replied n (pick (eqb n 0) (map (λ b. 0) buffer) buffer)
+blank (answered a) = answered a
 
 abbrev pub repliesZeros : Machine
-repliesZeros = but (λ d i s. with-given s (zeroed (s .given)))
+repliesZeros = but (λ d i s. with-given s (blank (s .given)))
+
+-- one that counts truly and shows zeros for REC, TEC and the groups
+abbrev pub blind : Machine
+blind = replying (λ d. with-counters d zeroed)
+
+-- one that clears ERR and INTF before it shows them
+abbrev pub clearsFirst : Machine
+clearsFirst = replying (λ d. with-regs d (with-errs (with-intf (d .regs) 0) 0))
 
 -- 01: "a device that refuses each transfer"
 abbrev pub refusesAll : Machine
@@ -131,7 +164,7 @@ madeUpGroups = counting (λ c. with-groups c 0)
 abbrev pub resetting : (Registers → Registers → Registers) → Machine
 resetting keep d (spi bytes buffer) =
     let s : Step = shipped d (spi bytes buffer) in
-    pick (resetAsked bytes) (with-device s (with-regs (s .device) (keep (d .regs) (s .device .regs)))) s
+    pick (done (s .given) && resetAsked bytes) (with-device s (with-regs (s .device) (keep (d .regs) (s .device .regs)))) s
 resetting keep d (wire e payload) = shipped d (wire e payload)
 
 -- a reset that clears ERR, and one that keeps INTF
