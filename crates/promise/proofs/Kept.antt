@@ -78,11 +78,11 @@ length-tabulate : {A : Type 0} (f : ℕ → A) (i n : ℕ) → length (tabulate 
 length-tabulate f i zero = refl
 length-tabulate f i (suc n) = ap suc (length-tabulate f (suc i) n)
 
-taken-items : (q : Fifo) → takeOff q .items ≡ q .items
+pub taken-items : (q : Fifo) → takeOff q .items ≡ q .items
 unfolding takeOff
 taken-items q = pick-under (λ (r : Fifo). r .items ≡ q .items) (eqb (q .count) 0) _ _ (λ none. refl) (λ some. refl)
 
-put-items : (q : Fifo) (m : Message) → length (put q m .items) ≡ length (q .items)
+pub put-items : (q : Fifo) (m : Message) → length (put q m .items) ≡ length (q .items)
 unfolding put
 put-items q m = pick-under (λ (r : Fifo). length (r .items) ≡ length (q .items)) (ltb (q .count) 8) _ _ (λ room. length-set (q .items) _ m) (λ full. refl)
 

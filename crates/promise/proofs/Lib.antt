@@ -16,6 +16,8 @@ pub mod Frames
 pub mod Ledger
 pub mod Parts
 pub mod EventKinds
+pub mod OutboxKept
+pub mod Outgoing
 pub mod Counted
 pub mod Timed
 pub mod Seen

@@ -29,7 +29,7 @@ use Rattle.transmit.specs.Transmit
 use Rattle.modes.specs.Modes
 use Rattle.receive.specs.Receive
 use Rattle.events.specs.declared.ErrorKind.the-variants.{Bit}
-use Rattle.events.specs.declared.Event.the-variants.{GoodFrame, ReceiveError, TransmitError, Begun, ElevenRecessive, BusQuiet, Ticks}
+use Rattle.events.specs.declared.Event.the-variants.{GoodFrame, ReceiveError, TransmitError, Begun, Completed, ElevenRecessive, BusQuiet, Ticks}
 use Rattle.judged.specs.declared.Answer.the-variants.{Arrived}
 use Rattle.judged.specs.Judged
 use Rattle.changed.specs.Changed
@@ -44,11 +44,13 @@ use Rattle.promise.specs.Sequence.{Input, spi, wire, Given, replied, ans
 use Rattle.promise.specs.Numbers.{row, lowest, said, numberGiven, Refused}
 use Rattle.promise.specs.Meaning.{Meaning, frame, reading as reads, clearing, other, means}
 use Rattle.promise.specs.Ledger.{Ledger, left, oldest, fields, due, hidden, buffered, Answers, ledger}
+use Rattle.promise.specs.Outbox.{Running, none, first, orphan, outbox}
 use Rattle.promise.specs.Readings.{reading}
 use Rattle.promise.specs.Sums.{sum, ticks, seen, kindBits}
 use Rattle.promise.specs.Interrupts.{flags, together}
 use Rattle.promise.specs.Wrong.{onlyFirst, leisurely, roomFirst, takesTwo, shortTakes, resetKeeps, modeClears, showsAnother, hitAtRead, repliesZeros, ghost}
-use Rattle.promise.specs.Wrong.{codeClipped, blind, clearsFirst, refusesAll, changesNothing, madeUpRec, madeUpTec, madeUpGroups, errCleared, intfKept}
+use Rattle.promise.specs.Wrong.{codeClipped, oldCompletion, nothingCopied, blind, clearsFirst, refusesAll, changesNothing, madeUpRec, madeUpTec, madeUpGroups}
+use Rattle.promise.specs.Wrong.{errCleared, intfKept}
 
 -- ---- lists of numbers that differ
 
@@ -113,6 +115,23 @@ counts c = c .rec ∷ c .tec ∷ c .groups ∷ []
 abbrev pub countedSides : Machine → List Input → Sides
 countedSides w is = (counts (run w fresh is .counters), counts (sum w is))
 
+abbrev pub runs : Device → Running → List ℕ
+runs d none = []
+runs d (first m) = d .buffer .bytes
+runs d (orphan m) = d .buffer .bytes
+
+abbrev pub runningBytes : Running → List ℕ
+runningBytes none = []
+runningBytes (first m) = m .bytes
+runningBytes (orphan m) = m .bytes
+
+-- the messages that wait to be sent, and the transmit buffer while one runs
+abbrev pub sentSides : Machine → List Input → Sides
+sentSides w is = (
+  allBytes (waiting (run w fresh is .tx)) ++ runs (run w fresh is) (outbox w is .running),
+  allBytes (outbox w is .queue) ++ runningBytes (outbox w is .running),
+)
+
 -- a register's reply in a buffer of one byte
 abbrev pub readSides : Machine → List Input → List ℕ → ℕ → Sides
 readSides w is bytes verb = (numbers (w (run w fresh is) (spi bytes (0 ∷ [])) .given), 0 ∷ putOf (reading w is verb) (0 ∷ []))
@@ -155,11 +174,16 @@ strangers =
 abbrev pub filtersLater : List Input
 filtersLater = spi (0x74 ∷ 0xFF ∷ 0xFF ∷ 0xFF ∷ 0xFF ∷ 0xFF ∷ 0xFF ∷ []) [] ∷ normal ∷ scan 1 ∷ spi (0x16 ∷ 0x10 ∷ []) [] ∷ []
 
--- a transmission that fails at TEC 255, then a group of recessive bits
+abbrev pub begun : List Input
+begun = normal ∷ spi (0x12 ∷ 0x07 ∷ 0x24 ∷ 0x60 ∷ 0x00 ∷ []) [] ∷ spi (0x16 ∷ 0x80 ∷ []) [] ∷ wire Begun [] ∷ []
+
+-- it fails at TEC 255, then a group of recessive bits comes
 abbrev pub busOff : List Input
-busOff =
-    normal ∷ spi (0x26 ∷ 0xFF ∷ []) [] ∷ spi (0x12 ∷ 0x07 ∷ 0x24 ∷ 0x60 ∷ 0x00 ∷ []) [] ∷ spi (0x16 ∷ 0x80 ∷ []) [] ∷ wire Begun [] ∷
-    wire (TransmitError Bit true) [] ∷ wire ElevenRecessive [] ∷ []
+busOff = spi (0x26 ∷ 0xFF ∷ []) [] ∷ begun ++ wire (TransmitError Bit true) [] ∷ wire ElevenRecessive [] ∷ []
+
+-- the FIFO emptied, another message written, and the first one completed
+abbrev pub orphaned : List Input
+orphaned = begun ++ spi (0x54 ∷ []) [] ∷ spi (0x12 ∷ 0x08 ∷ 0x24 ∷ 0x60 ∷ 0x00 ∷ []) [] ∷ wire Completed [] ∷ []
 
 abbrev pub errorThenReset : List Input
 errorThenReset = normal ∷ wire (ReceiveError Bit) [] ∷ spi (0x56 ∷ []) [] ∷ []
@@ -179,6 +203,8 @@ sides =
     dueSides repliesZeros two read ∷
     dueSides ghost (normal ∷ []) (wire BusQuiet []) ∷
     wholeSides codeClipped (normal ∷ long ∷ []) ∷
+    sentSides oldCompletion orphaned ∷
+    sentSides nothingCopied begun ∷
     readSides blind (normal ∷ wire (ReceiveError Bit) [] ∷ []) (0xEA ∷ []) readRec ∷
     readSides clearsFirst (normal ∷ wire (ReceiveError Bit) [] ∷ []) (0xDE ∷ []) readIntf ∷
     countedSides madeUpRec (normal ∷ wire (ReceiveError Bit) [] ∷ []) ∷
@@ -192,7 +218,7 @@ sides =
     (numberGiven shortTakes (run shipped fresh two) tooShort ∷ [], 0 ∷ []) ∷
     []
 
-differ : map (λ s. alike (s .0) (s .1)) sides ≡ replicate 22 false
+differ : map (λ s. alike (s .0) (s .1)) sides ≡ replicate 24 false
 unfolding Transfer.transfer Transfer.replyAfter Refused.lengthFits Refused.setsUp Refused.outsideSetUp Refused.findsFull Refused.readsMessage
     Refused.findsNone Refused.refusal Refused.rowJudged Refused.judged Proper.registersInRange Proper.sendingInRange Proper.actingInRange
     Proper.proper State.modeOf State.fresh State.enabled State.bank Queue.empty Queue.put Queue.take Queue.next Queue.inRange Table.rows
@@ -211,7 +237,7 @@ unfolding Transfer.transfer Transfer.replyAfter Refused.lengthFits Refused.setsU
     Transmit.countedCompletion Transmit.sent Shown.cut Shown.register Shown.shows
 differ = refl
 
-pub differs-at : (k : ℕ) → getD (map (λ s. alike (s .0) (s .1)) sides) k true ≡ getD (replicate 22 false) k true
+pub differs-at : (k : ℕ) → getD (map (λ s. alike (s .0) (s .1)) sides) k true ≡ getD (replicate 24 false) k true
 differs-at k = ap (λ (tests : List Bool). getD tests k true) differ
 
 pub apart : (s : Sides) → alike (s .0) (s .1) ≡ false → s .0 ≡ s .1 → ⊥

@@ -8,3 +8,4 @@ pub mod Wrong
 pub mod Worked
 pub mod Promises
 pub mod Readings
+pub mod Outbox

@@ -3,6 +3,7 @@
 use Rattle.promise.specs.Sequence.{shipped}
 use Rattle.promise.specs.Numbers.{Answered, First, Exactly, Refused, NeverOne}
 use Rattle.promise.specs.Ledger.{Whole, Due, Same, AsArrived}
+use Rattle.promise.specs.Outbox.{Sent}
 use Rattle.promise.specs.Sums.{Counted, Timed, Seen}
 use Rattle.promise.specs.Interrupts.{Raised}
 use Rattle.promise.specs.Readings.{Read}
@@ -42,13 +43,16 @@ IntfIsTheFlagsRaised = Raised shipped
 abbrev pub RegistersReadAsSummed : Type 0
 RegistersReadAsSummed = Read shipped
 
--- ---- demand 3 (Ledger)
+-- ---- demand 3 (Ledger, Outbox)
 
 abbrev pub NoFrameIsLost : Type 0
 NoFrameIsLost = Whole shipped
 
 abbrev pub EachAnswerIsDue : Type 0
 EachAnswerIsDue = Due shipped
+
+abbrev pub OwnMessagesAreThoseWritten : Type 0
+OwnMessagesAreThoseWritten = Sent shipped
 
 abbrev pub TheAnswersKeepTheLedger : Type 0
 TheAnswersKeepTheLedger = Same shipped

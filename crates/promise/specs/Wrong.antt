@@ -11,11 +11,13 @@ use Rattle.counters.specs.declared.Counters.{Counters}
 use Rattle.counters.specs.Rules.{zeroed, with-rec, with-tec, with-groups}
 use Rattle.fifo.specs.declared.Fifo.{Fifo}
 use Rattle.fifo.specs.declared.Message.{Message}
-use Rattle.fifo.specs.Queue.{empty, isEmpty, full, next, take}
+use Rattle.fifo.specs.Queue.{empty, none, isEmpty, full, next, take}
 use Rattle.frame.specs.Received.{headerIn, dataIn}
 use Rattle.chip.specs.declared.Device.{Device}
 use Rattle.chip.specs.declared.Registers.{Registers}
-use Rattle.chip.specs.Parts.{with-rx, with-counters, with-regs, with-errs, with-intf}
+use Rattle.chip.specs.State.{idle, first-in-fifo, alone}
+use Rattle.chip.specs.Parts.{with-rx, with-tx, with-buffer, with-counters, with-regs, with-errs, with-intf}
+use Rattle.flags.specs.Flags.{txcplt}
 use Rattle.receive.specs.declared.Arrival.the-variants.{Queued, A5}
 use Rattle.receive.specs.Receive.{message}
 use Rattle.judged.specs.declared.Answer.the-variants.{Refused, Done, Arrived}
@@ -24,6 +26,7 @@ use Rattle.host.specs.Transfer.{replyAfter}
 use Rattle.promise.specs.Sequence.{Input, spi, wire, Given, replied, answered, Step, Machine, shipped, number}
 use Rattle.promise.specs.Numbers.{command, said}
 use Rattle.promise.specs.Ledger.{saysQueued}
+use Rattle.promise.specs.Interrupts.{ownFlags}
 use Rattle.promise.specs.Sums.{done, resetAsked}
 
 -- the shipped device, but for what a change makes of each step
@@ -94,6 +97,20 @@ modeClears d (spi bytes buffer) =
     let s : Step = shipped d (spi bytes buffer) in
     pick (eqb (d .acting) (s .device .acting)) s (with-queue s empty)
 modeClears d (wire e payload) = shipped d (wire e payload)
+
+-- ---- own messages
+
+-- 01: "After 0x54 during a transmission, a new message is written and the old completion removes it."
+abbrev pub oldCompletion : Machine
+oldCompletion d (spi bytes buffer) = shipped d (spi bytes buffer)
+oldCompletion d (wire e payload) =
+    let s : Step = shipped d (wire e payload) in
+    pick (eqb (d .sending) alone && eqb (byte (ownFlags e) 1) txcplt) (with-device s (with-tx (s .device) (take (s .device .tx)))) s
+
+-- one that begins a message without a copy of it: in loopback zeros arrive
+abbrev pub nothingCopied : Machine
+nothingCopied =
+    but (λ d i s. pick (eqb (d .sending) idle && eqb (s .device .sending) first-in-fifo) (with-device s (with-buffer (s .device) none)) s)
 
 -- ---- replies
 
