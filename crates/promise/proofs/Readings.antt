@@ -23,7 +23,7 @@ use Rattle.refused.specs.Refused.{lengthFits, setsUp, findsFull, readsMessage, 
 use Rattle.shown.specs.Shown.{register, shows}
 use Rattle.promise.specs.Promises.{RegistersReadAsSummed}
 use Rattle.promise.specs.Sequence.{spi, replied, Step, shipped as step, number, run}
-use Rattle.promise.specs.Readings.{isReading, readingOf}
+use Rattle.promise.specs.Readings.{isReading, readingOf, Read}
 use Rattle.promise.proofs.Among.{_and_, among-keeps}
 use Rattle.promise.proofs.Answered.{first}
 use Rattle.promise.proofs.LastChecks.{last, fit-number, never-last}
@@ -111,7 +111,10 @@ module _ (d : Device) (h : InRange d) where
       (ap (λ (shown : List ℕ). replied 0 (putOf shown buffer))
       (shows-each (r .verb) reads (r .index) (r .out) (lookup-all (λ r. outFits (r .verb) (r .out)) rows (byte bytes 1) r at outs))))
 
-pub readings : RegistersReadAsSummed
-readings is bytes buffer r at reads fits room =
+summed : Read step
+summed is bytes buffer r at reads fits room =
     rw (← counted-sum is, ← seen-kinds is, ← raised-flags is, ← timed is)
     (given-reading (run step fresh is) (reached-in is) bytes buffer r at reads fits room)
+
+pub readings : RegistersReadAsSummed
+readings is bytes buffer r at reads fits room = summed is bytes buffer r at reads fits room
