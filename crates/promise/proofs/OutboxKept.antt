@@ -21,7 +21,7 @@ use Rattle.flags.specs.Reset.{reset}
 use Rattle.transmit.specs.Transmit.{canBegin, begun, stopped, cleared, leftAlone, fifoAfter, sent}
 use Rattle.modes.specs.Modes.{changed, writeCtrl0}
 use Rattle.done.specs.Done.{messageWritten}
-use Rattle.promise.specs.Outbox.{Running, none, first, orphan, Outbox, emptied, halted, orphaned, brought, left, Runs}
+use Rattle.promise.specs.Outbox.{Running, none, first, orphan, Outbox, emptied, halted, orphaned, brought, remaining, Runs}
 use Rattle.promise.proofs.Choices.{pick-keeps, pick-under}
 use Rattle.promise.proofs.Fits.{some-wait}
 use Rattle.promise.proofs.Kept.{taken-items, put-items}
@@ -123,13 +123,13 @@ module _ (d : Device) (o : Outbox) (h : Held d o) where
       let waits = leb-true 1 (d .tx .count) (some-wait (d .tx .count) (and-left (not (isEmpty (d .tx))) _ (and-right (eqb (d .sending) idle) _ can))) in
       record { places = h .places; queued = h .queued; runs = (refl, next-first (d .tx .count - 1) (omega arith)) }
 
-  sent-queue : (r : Running) → Runs d r → waiting (fifoAfter (d .tx) (d .sending)) ≡ left (o .queue) r
+  sent-queue : (r : Running) → Runs d r → waiting (fifoAfter (d .tx) (d .sending)) ≡ remaining (o .queue) r
   unfolding fifoAfter
   sent-queue none runs = rw runs (h .queued)
   sent-queue (first m) runs = rw (runs .0) (taken-waits (d .tx) ∙ ap (drop 1) (h .queued))
   sent-queue (orphan m) runs = rw (runs .0) (h .queued)
 
-  pub sent-held : Held (sent d) (record { queue = left (o .queue) (o .running); running = none })
+  pub sent-held : Held (sent d) (record { queue = remaining (o .queue) (o .running); running = none })
   unfolding sent raised fifoAfter
   sent-held = record {
     places = pick-keeps (λ (q : Fifo). length (q .items) ≡ 8) (eqb (d .sending) first-in-fifo) (take (d .tx)) (d .tx)

@@ -55,15 +55,15 @@ commanded o bytes before after =
     (pick (eqb before after) o (halted o)))))
 
 -- a completed message leaves the FIFO, unless 0x54 took it out before
-abbrev pub left : List Message → Running → List Message
-left queue none = queue
-left queue (first m) = drop 1 queue
-left queue (orphan m) = queue
+abbrev pub remaining : List Message → Running → List Message
+remaining queue none = queue
+remaining queue (first m) = drop 1 queue
+remaining queue (orphan m) = queue
 
 -- an event that was done
 abbrev pub happened : Outbox → Event → Outbox
 happened o Begun = record { queue = o .queue; running = first (getD (o .queue) 0 absent) }
-happened o Completed = record { queue = left (o .queue) (o .running); running = none }
+happened o Completed = record { queue = remaining (o .queue) (o .running); running = none }
 happened o (TransmitError kind counted) = halted o
 happened o ArbitrationLost = halted o
 happened o MasterReset = emptied
