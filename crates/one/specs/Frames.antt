@@ -1,6 +1,6 @@
 -- One result for each public function of base, commands, frame, sent and filter.
 -- The first line of each names the contract that the function's theorem states, the second the definition that it equates the
--- result with, as a function of the parameters (`λ _` passes over the lifetimes). `Law` says what it is to leave one result.
+-- result or the lent memory with, as a function of the parameters (`λ _` passes over the lifetimes). `Law` says what it is to leave one result.
 use mathlib.Core.Path.{refl}
 use Prim.Native.Nat.{_≤_}
 use lib.ListN.{getD}

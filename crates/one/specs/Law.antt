@@ -22,7 +22,7 @@ module _ (T : Ended) where
   abbrev pub Inputs : Type 0
   Inputs = (κs : Lfts (T .signature .lifetimes)) × Args (T .signature) κs
 
-  -- what memory that was lent for a change holds at exit
+  -- what memory that was lent for a change, and is given back, holds at exit
   abbrev pub Left : Inputs → Type 0
   Left a = Lasts T (a .0) (a .1)
 

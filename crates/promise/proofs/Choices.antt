@@ -1,6 +1,6 @@
--- What holds of a choice. Assumes nothing.
-use mathlib.Core.Path.{_≡_, refl}
-use mathlib.Core.Bool.{Bool, true, false}
+-- What holds of a choice, and of two that are both denied. Assumes nothing.
+use mathlib.Core.Path.{_≡_, refl, sym}
+use mathlib.Core.Bool.{Bool, true, false, _||_, false≢true}
 use Rattle.base.specs.Pick.{pick}
 
 -- what holds of both sides of a choice holds of it
@@ -17,3 +17,12 @@ pick-under P false x y p q = q refl
 pub pick-part : {A B : Type 0} (part : A → B) (t : Bool) (x y : A) → part (pick t x y) ≡ pick t (part x) (part y)
 pick-part part true x y = refl
 pick-part part false x y = refl
+
+-- neither of two holds
+pub or-left : (a b : Bool) → (a || b) ≡ false → a ≡ false
+or-left true b e = e
+or-left false b e = refl
+
+pub or-right : (a b : Bool) → (a || b) ≡ false → b ≡ false
+or-right true b e = absurd (false≢true (sym e))
+or-right false b e = e

@@ -21,7 +21,6 @@ use Rattle.transmit.specs.Transmit.{aborted, cleared, leftAlone, stopped}
 use Rattle.modes.specs.Modes.{changed, writeCtrl0}
 use Rattle.done.specs.Done.{settings, registersAfter, registerChanged, messageTaken, entryTaken, receiveCleared, timeReset, messageWritten, filterWritten}
 use Rattle.done.specs.Done.{maskWritten, recWritten, tecWritten, deeds, does}
-use Rattle.promise.proofs.Steps.{keeps}
 use Rattle.promise.proofs.Among.{_and_, among-keeps}
 use Rattle.promise.proofs.Choices.{pick-under}
 use Rattle.promise.proofs.Ranges.{Ranges, InRange, empty-fits, put-fits, take-fits}
@@ -58,7 +57,7 @@ module _ (d : Device) (h : InRange d) where
   ctrl0-in v =
       pick-under InRange (isSet 3 v) _ _
       (λ resets. (empty-fits, empty-fits, empty-fits, h .3, h .4, refl, refl, refl, refl))
-      (λ keeps. pick-under InRange (eqb (modeOf v) sleep) _ _
+      (λ stays. pick-under InRange (eqb (modeOf v) sleep) _ _
       (λ sleeps. (h .0, h .1, h .2, h .3, h .4, h .5, h .6, h .7, rw sleeps (acting-le (d .acting) (d .regs .ctrl0) (h .8))))
       (λ wakes. pick-under InRange (eqb (modeOf v) (d .acting)) _ _
       (λ same. (h .0, h .1, h .2, h .3, h .4, h .5, h .6, h .7, named-fits (d .acting) v wakes (sym (eqb-true (modeOf v) (d .acting) same))))

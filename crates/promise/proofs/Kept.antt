@@ -5,20 +5,20 @@ use mathlib.Core.List.{List, [], _∷_, _++_, append-assoc}
 use Prim.Native.Nat.{ℕ, zero, suc, _<_, _≤_, _+_, _-_}
 use native.Mathlib.Omega.{arith}
 use native.Mathlib.Nat.{le-of-suc-le-suc, not-suc-le-zero}
-use borrow.Author.Tests.{leb-true, eq-eqb, ne-eqb}
-use lib.Dec.{eqb, leb, ltb}
+use borrow.Author.Tests.{eq-eqb, ne-eqb}
+use lib.Dec.{eqb, ltb}
 use lib.ListN.{length, getD, take, replicate, length-append, length-take, length-replicate, length-set}
 use lib.Seq.{getD-append-seam}
 use Rattle.base.specs.Pick.{pick}
 use Rattle.base.specs.Put.{putOf}
 use Rattle.base.proofs.Lists.{tabulate}
-use Rattle.base.proofs.Booleans.{pick-bound}
 use Rattle.fifo.specs.declared.Fifo.{Fifo}
 use Rattle.fifo.specs.declared.Message.{Message}
 use Rattle.fifo.specs.Queue.{empty, absent, waiting, put, next, take as takeOff}
 use Rattle.fifo.proofs.Waiting.{put-waits, take-waits}
 use Rattle.frame.specs.declared.Header.{Header}
-use Rattle.frame.specs.Length.{dataLength, dataBytes, dataOf}
+use Rattle.frame.specs.Length.{dataBytes, dataOf}
+use Rattle.frame.proofs.Data.{data-bytes-le}
 use Rattle.frame.specs.Received.{received}
 use Rattle.frame.specs.Tables.{readId}
 use Rattle.chip.specs.declared.Device.{Device}
@@ -34,21 +34,13 @@ use Rattle.promise.proofs.Ranges.{InRange}
 
 -- ---- how long a message is
 
-data-le : (h : Header) → dataBytes h ≤ 8
-unfolding dataBytes dataLength
-data-le h = pick-bound (h .remote) 0 _ 8 (omega arith) (code-le (leb (h .code) 8) (h .code) refl)
-  where
-    code-le : (t : Bool) (code : ℕ) → leb code 8 ≡ t → pick t code 8 ≤ 8
-    code-le true code e = leb-true code 8 e
-    code-le false code e = omega arith
-
 abbrev pub Sized : Message → Type 0
 Sized m = (8 ≤ length (m .bytes)) × (length (m .bytes) ≤ 16)
 
 data-length : (h : Header) (payload : List ℕ) → length (dataOf h payload) ≤ 8
 unfolding dataOf
 data-length h payload =
-    let some = data-le h in
+    let some = data-bytes-le h in
     rw (length-append (take (dataBytes h) payload) (replicate (8 - dataBytes h) 0), length-take (dataBytes h) payload, length-replicate {A = ℕ} (8 - dataBytes h) 0)
     (omega arith)
 

@@ -12,6 +12,7 @@ use Rattle.base.specs.Pick.{pick}
 use Rattle.base.proofs.Booleans.{and-left}
 use Rattle.chip.specs.declared.Device.{Device}
 use Rattle.chip.specs.Proper.{proper}
+use Rattle.chip.specs.State.{initialization}
 use Rattle.commands.specs.declared.Found.the-variants.{At}
 use Rattle.commands.specs.declared.Row.{Row}
 use Rattle.commands.specs.Table.{rows, lookup}
@@ -40,7 +41,7 @@ module _ (d : Device) where
 
   never-set-up : (verb : ℕ) → setsUp verb ≡ false → outsideSetUp (d .acting) verb ≡ false
   unfolding outsideSetUp
-  never-set-up verb none = pick-under (λ (b : Bool). b ≡ false) (eqb (d .acting) 4) _ _ (λ inside. refl) (λ out. none)
+  never-set-up verb none = pick-under (λ (b : Bool). b ≡ false) (eqb (d .acting) initialization) _ _ (λ inside. refl) (λ out. none)
 
   -- a command that reads a message is refused only when none waits
   pub read-last : (verb : ℕ) → setsUp verb ≡ false → findsFull (d .tx .count) verb ≡ false → readsMessage verb ≡ true

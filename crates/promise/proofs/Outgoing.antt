@@ -1,6 +1,6 @@
 -- Demand 3, of own messages: after every sequence from a fresh device it keeps to the outbox. Assumes nothing.
 use mathlib.Core.Path.{_≡_, refl, sym, _∙_, ap}
-use mathlib.Core.Bool.{Bool, true, false, _&&_, _||_}
+use mathlib.Core.Bool.{Bool, false, _&&_, _||_}
 use mathlib.Core.List.{List, [], _∷_, _++_}
 use Prim.Native.Nat.{ℕ, _<_, _≤_}
 use native.Mathlib.Omega.{arith}
@@ -34,17 +34,13 @@ use Rattle.promise.specs.Sequence.{Input, spi, wire, Step, shipped as st
 use Rattle.promise.specs.Numbers.{row, lowest}
 use Rattle.promise.specs.Outbox.{Outbox, emptied, halted, orphaned, brought, commanded, happened, outboxAfter, outbox}
 use Rattle.promise.proofs.Among.{_and_, among-keeps, none-of}
-use Rattle.promise.proofs.Choices.{pick-keeps}
+use Rattle.promise.proofs.Choices.{pick-keeps, or-left}
 use Rattle.promise.proofs.Steps.{keeps, by-transfer}
 use Rattle.promise.proofs.EventKinds.{by-happening}
 use Rattle.promise.proofs.Lowest.{lowest-none}
 use Rattle.promise.proofs.Answered.{first}
 use Rattle.promise.proofs.OutboxKept.{outgoing, Held, onward, empty-held, same-held, stopped-held, onward-held, ctrl0-held, cleared-held, written-held}
 use Rattle.promise.proofs.OutboxKept.{begun-held, sent-held}
-
-or-left : (a b : Bool) → (a || b) ≡ false → a ≡ false
-or-left true b e = e
-or-left false b e = refl
 
 -- ---- events that leave what the outbox speaks of
 

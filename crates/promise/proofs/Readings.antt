@@ -46,8 +46,8 @@ by-reading P rec tec groups err intf time verb =
     (λ out is. absurd (false≢true is))
 
 -- the bytes that the table gives to them
-abbrev outFits : ℕ → ℕ → Bool
-outFits verb out =
+abbrev readingOut : ℕ → ℕ → Bool
+readingOut verb out =
     among verb
     ((readRec, eqb out 1) ∷
     (readTec, eqb out 1) ∷
@@ -58,14 +58,14 @@ outFits verb out =
     [])
     true
 
-outs : all (λ r. outFits (r .verb) (r .out)) rows ≡ true
+reading-outs : all (λ r. readingOut (r .verb) (r .out)) rows ≡ true
 unfolding rows
-outs = refl
+reading-outs = refl
 
 module _ (d : Device) (h : InRange d) where
   -- what the device shows of each
   Shows : ℕ → Type 0
-  Shows verb = (k out : ℕ) → outFits verb out ≡ true → take out (shows d verb k) ≡ readingOf (d .counters) (d .regs .errs) (d .regs .intf) (d .time) verb
+  Shows verb = (k out : ℕ) → readingOut verb out ≡ true → take out (shows d verb k) ≡ readingOf (d .counters) (d .regs .errs) (d .regs .intf) (d .time) verb
 
   errs-shown : d .regs .errs % 32 ≡ d .regs .errs
   errs-shown = mod-eq-of-lt (omega (arith, leb-true (d .regs .errs) 31 (h .4)))
@@ -109,7 +109,7 @@ module _ (d : Device) (h : InRange d) where
       ∙ fit-number d bytes buffer r (ranges-proper d h) at fits room ∙ never-refused (r .verb) reads)))
       (λ s is found. rw (← same-row r s (sym at ∙ found))
       (ap (λ (shown : List ℕ). replied 0 (putOf shown buffer))
-      (shows-each (r .verb) reads (r .index) (r .out) (lookup-all (λ r. outFits (r .verb) (r .out)) rows (byte bytes 1) r at outs))))
+      (shows-each (r .verb) reads (r .index) (r .out) (lookup-all (λ r. readingOut (r .verb) (r .out)) rows (byte bytes 1) r at reading-outs))))
 
 summed : Read step
 summed is bytes buffer r at reads fits room =
@@ -117,4 +117,4 @@ summed is bytes buffer r at reads fits room =
     (given-reading (run step fresh is) (reached-in is) bytes buffer r at reads fits room)
 
 pub readings : RegistersReadAsSummed
-readings is bytes buffer r at reads fits room = summed is bytes buffer r at reads fits room
+readings = summed

@@ -42,10 +42,10 @@ use Rattle.done.specs.Done
 use Rattle.host.specs.Transfer
 use Rattle.promise.specs.Sequence.{Input, spi, wire, Given, replied, answered, Machine, shipped, number, run}
 use Rattle.promise.specs.Numbers.{row, lowest, said, numberGiven, Refused}
-use Rattle.promise.specs.Meaning.{Meaning, frame, reading as reads, clearing, other, means}
+use Rattle.promise.specs.Meaning.{Meaning, frame, reading, clearing, other, means}
 use Rattle.promise.specs.Ledger.{Ledger, left, oldest, fields, due, hidden, buffered, Answers, ledger}
 use Rattle.promise.specs.Outbox.{Running, none, first, orphan, outbox}
-use Rattle.promise.specs.Readings.{reading}
+use Rattle.promise.specs.Readings.{readout}
 use Rattle.promise.specs.Sums.{sum, ticks, seen, kindBits}
 use Rattle.promise.specs.Interrupts.{flags, together}
 use Rattle.promise.specs.Wrong.{onlyFirst, leisurely, roomFirst, takesTwo, shortTakes, resetKeeps, modeClears, showsAnother, hitAtRead, repliesZeros, ghost}
@@ -88,7 +88,7 @@ silent (answered a) = []
 -- what is due, and the number given where none is
 abbrev pub numbersDue : Device → Ledger → List ℕ → Meaning → Given → List ℕ
 numbersDue d l buffer (frame h payload earlier) given = numbers (answered (Arrived (due d l h payload earlier)))
-numbersDue d l buffer (reads verb) given = numbers (pick (eqb (left l) 0) (replied 7 buffer) (replied 0 (putOf (fields verb (oldest l)) buffer)))
+numbersDue d l buffer (reading verb) given = numbers (pick (eqb (left l) 0) (replied 7 buffer) (replied 0 (putOf (fields verb (oldest l)) buffer)))
 numbersDue d l buffer clearing given = number given ∷ silent given
 numbersDue d l buffer other given = number given ∷ silent given
 
@@ -99,7 +99,7 @@ says-nothing (answered a) is = ap (λ l. number (answered a) ∷ l) is
 pub given-due : (d : Device) (l : Ledger) (buffer : List ℕ) (m : Meaning) (given : Given)
     → Answers d l buffer m given → numbers given ≡ numbersDue d l buffer m given
 given-due d l buffer (frame h payload earlier) given is = ap numbers is
-given-due d l buffer (reads verb) given is = ap numbers is
+given-due d l buffer (reading verb) given is = ap numbers is
 given-due d l buffer clearing given is = says-nothing given (is .1)
 given-due d l buffer other given is = says-nothing given is
 
@@ -134,7 +134,7 @@ sentSides w is = (
 
 -- a register's reply in a buffer of one byte
 abbrev pub readSides : Machine → List Input → List ℕ → ℕ → Sides
-readSides w is bytes verb = (numbers (w (run w fresh is) (spi bytes (0 ∷ [])) .given), 0 ∷ putOf (reading w is verb) (0 ∷ []))
+readSides w is bytes verb = (numbers (w (run w fresh is) (spi bytes (0 ∷ [])) .given), 0 ∷ putOf (readout w is verb) (0 ∷ []))
 
 abbrev pub queueSides : Machine → Device → Input → Sides
 queueSides w d i = (w d i .device .rx .count ∷ [], d .rx .count ∷ [])

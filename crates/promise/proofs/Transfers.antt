@@ -1,6 +1,6 @@
 -- A transfer agrees with the ledger. Assumes nothing.
 use mathlib.Core.Path.{_≡_, refl, sym, _∙_, ap}
-use mathlib.Core.Bool.{Bool, true, false, not, _&&_, _||_, false≢true}
+use mathlib.Core.Bool.{Bool, true, false, not, _&&_}
 use mathlib.Core.List.{List}
 use Prim.Native.Nat.{ℕ, suc, _<_, _≤_, _-_}
 use native.Mathlib.Omega.{arith}
@@ -33,7 +33,7 @@ use Rattle.promise.specs.Numbers.{row, lowest}
 use Rattle.promise.specs.Meaning.{Meaning, frame, reading, clearing, other, meanings, commandMeans, means}
 use Rattle.promise.specs.Ledger.{Ledger, hidden}
 use Rattle.promise.proofs.Among.{_and_, among-keeps, among-outside}
-use Rattle.promise.proofs.Choices.{pick-keeps, pick-under}
+use Rattle.promise.proofs.Choices.{pick-keeps, pick-under, or-right}
 use Rattle.promise.proofs.Answered.{first}
 use Rattle.promise.proofs.LastChecks.{last, fit-number, read-last, never-last}
 use Rattle.promise.proofs.Lowest.{lowest-none}
@@ -181,14 +181,10 @@ module _ (d : Device) (l : Ledger) (h : Kept d l) (bytes buffer : List ℕ) wher
     unsaid : (n : ℕ) → 0 < n → n ≤ 8 → row d (spi bytes buffer) n ≡ false
     unsaid n above below = lowest-none (row d (spi bytes buffer)) 8 1 n (omega arith) done above (omega arith)
 
-    or-false : (a b : Bool) → (a || b) ≡ false → b ≡ false
-    or-false true b e = absurd (false≢true (sym e))
-    or-false false b e = e
-
     done-agrees : Agrees d l buffer (commandMeans (At r) bytes (length buffer)) (doneTransfer d r bytes buffer)
     unfolding Doing
     done-agrees =
-        let right : not (lengthFits r bytes) ≡ false = or-false (eqb (length bytes) 0) _ (rw at at (unsaid 3 (omega arith) (omega arith))) in
+        let right : not (lengthFits r bytes) ≡ false = or-right (eqb (length bytes) 0) _ (rw at at (unsaid 3 (omega arith) (omega arith))) in
         let fits : lengthFits r bytes ≡ true = not-false (lengthFits r bytes) right in
         let room : ltb (length buffer) (r .out) ≡ false = rw at at (unsaid 4 (omega arith) (omega arith)) in
         let some : findsNone (d .rx .count) (d .history .count) (r .verb) ≡ false = rw at at (unsaid 7 (omega arith) (omega arith)) in

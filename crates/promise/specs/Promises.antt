@@ -1,4 +1,4 @@
--- What is promised of the device that is shipped: a line for each promise, which the file named in it says in full. docs/PROMISES.md
+-- What is promised of the device that is shipped: a line for each promise, which the file named above its group says in full. docs/PROMISES.md
 -- tells them in plain words.
 use Rattle.promise.specs.Sequence.{shipped}
 use Rattle.promise.specs.Numbers.{Answered, First, Exactly, Refused, NeverOne}

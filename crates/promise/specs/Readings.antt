@@ -41,11 +41,11 @@ readingOf c errs intf time verb =
     []
 
 module _ (step : Machine) where
-  abbrev pub reading : List Input → ℕ → List ℕ
-  reading is = readingOf (sum step is) (kindBits (seen step is)) (together 0 (flags step is)) (ticks step is % 65536)
+  abbrev pub readout : List Input → ℕ → List ℕ
+  readout is = readingOf (sum step is) (kindBits (seen step is)) (together 0 (flags step is)) (ticks step is % 65536)
 
   -- a command of the right length, with room for its reply, that reads one of them
   abbrev pub Read : Type 0
   Read = (is : List Input) (bytes buffer : List ℕ) (r : Row) → lookup rows (byte bytes 1) ≡ At r → isReading (r .verb) ≡ true
       → lengthFits r bytes ≡ true → ltb (length buffer) (r .out) ≡ false
-      → step (run step fresh is) (spi bytes buffer) .given ≡ replied 0 (putOf (reading is (r .verb)) buffer)
+      → step (run step fresh is) (spi bytes buffer) .given ≡ replied 0 (putOf (readout is (r .verb)) buffer)

@@ -39,7 +39,6 @@ abbrev pub tec-at : ℕ → Counters
 tec-at n = with-tec zeroed n
 
 -- REC, then ERRW and ERRP
-
 abbrev pub rec-shown : Counters → List ℕ
 rec-shown c = c .rec ∷ flag (errw c) ∷ flag (errp c) ∷ []
 

@@ -1,12 +1,13 @@
 -- Devices that the promises rule out: the shipped one, but for one thing. `proofs/RuledOut` shows of each a sequence on which it
 -- breaks its promise.
 use mathlib.Core.Bool.{not, _&&_}
-use mathlib.Core.List.{_∷_, _++_, map}
-use Prim.Native.Nat.{_%_, min}
+use mathlib.Core.List.{List, _∷_, _++_, map}
+use Prim.Native.Nat.{ℕ, _%_, min}
 use lib.Dec.{eqb, ltb}
-use lib.ListN.{drop, set, take as firstBytes}
+use lib.ListN.{drop, set, replicate, take as firstBytes}
 use Rattle.base.specs.Bit.{byte, isSet}
 use Rattle.base.specs.Pick.{pick}
+use Rattle.base.specs.Put.{putOf}
 use Rattle.counters.specs.declared.Counters.{Counters}
 use Rattle.counters.specs.Rules.{zeroed, with-rec, with-tec, with-groups}
 use Rattle.fifo.specs.declared.Fifo.{Fifo}
@@ -21,6 +22,9 @@ use Rattle.flags.specs.Flags.{txcplt}
 use Rattle.receive.specs.declared.Arrival.the-variants.{Queued, A5}
 use Rattle.receive.specs.Receive.{message}
 use Rattle.judged.specs.declared.Answer.the-variants.{Refused, Done, Arrived}
+use Rattle.commands.specs.declared.Found.{Found}
+use Rattle.commands.specs.declared.Found.the-variants.{At, Nothing}
+use Rattle.commands.specs.Table.{rows, lookup}
 use Rattle.refused.specs.Refused.{readsMessage}
 use Rattle.host.specs.Transfer.{replyAfter}
 use Rattle.promise.specs.Sequence.{Input, spi, wire, Given, replied, answered, Step, Machine, shipped, number}
@@ -138,12 +142,15 @@ hitAtRead =
     }))
 
 -- 01: "one that replies zeros always"
-abbrev pub blank : Given → Given
-blank (replied n buffer) = replied n (pick (eqb n 0) (map (λ b. 0) buffer) buffer)
-blank (answered a) = answered a
+abbrev pub blank : Found → List ℕ → List ℕ
+blank Nothing buffer = buffer
+blank (At r) buffer = putOf (replicate (r .out) 0) buffer
 
 abbrev pub repliesZeros : Machine
-repliesZeros = but (λ d i s. with-given s (blank (s .given)))
+repliesZeros d (spi bytes buffer) =
+    let s : Step = shipped d (spi bytes buffer) in
+    with-given s (replied (number (s .given)) (pick (done (s .given)) (blank (lookup rows (byte bytes 1)) buffer) buffer))
+repliesZeros d (wire e payload) = shipped d (wire e payload)
 
 -- one that counts truly and shows zeros for REC, TEC and the groups
 abbrev pub blind : Machine
