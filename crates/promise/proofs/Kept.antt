@@ -29,6 +29,7 @@ use Rattle.promise.specs.Numbers.{said}
 use Rattle.promise.specs.Meaning.{Reason, Meaning, frame, reading, clearing, other}
 use Rattle.promise.specs.Ledger.{Ledger, left, oldest, due, accepts, nothing, entered, owed, told, hidden, fields, Answers}
 use Rattle.promise.specs.Sequence.{Given, replied, answered, Step, number}
+use Rattle.promise.proofs.Each.{Each, each-more}
 use Rattle.promise.proofs.Choices.{pick-under}
 use Rattle.promise.proofs.Ranges.{InRange}
 
@@ -50,16 +51,7 @@ message-sized d h payload =
     let few = data-length h payload in
     (omega arith, omega arith)
 
--- every one of a list
-abbrev pub AllSized : List Message → Type 0
-AllSized [] = Unit {0}
-AllSized (m ∷ ms) = Sized m × AllSized ms
-
-one-more-sized : (ms : List Message) (m : Message) → AllSized ms → Sized m → AllSized (ms ++ (m ∷ []))
-one-more-sized [] m all s = (s, tt)
-one-more-sized (n ∷ ms) m all s = (all .0, one-more-sized ms m (all .1) s)
-
-sized-at : (ms : List Message) (i : ℕ) → i < length ms → AllSized ms → Sized (getD ms i absent)
+sized-at : (ms : List Message) (i : ℕ) → i < length ms → Each Sized ms → Sized (getD ms i absent)
 sized-at [] i below all = absurd (not-suc-le-zero below)
 sized-at (m ∷ ms) zero below all = all .0
 sized-at (m ∷ ms) (suc i) below all = sized-at ms i (le-of-suc-le-suc below) (all .1)
@@ -82,7 +74,7 @@ pub record Kept (d : Device) (l : Ledger) : Type 0 where
   pub range : InRange d
   pub places : length (d .rx .items) ≡ 8
   pub whole : l .taken ++ waiting (d .rx) ≡ l .accepted
-  pub sized : AllSized (l .accepted)
+  pub sized : Each Sized (l .accepted)
 
 -- an input of a meaning, and the step that it makes, agree with the ledger
 pub record Agrees (d : Device) (l : Ledger) (buffer : List ℕ) (m : Meaning) (s : Step) : Type 0 where
@@ -162,7 +154,7 @@ module _ (d : Device) (l : Ledger) (h : Kept d l) where
     range = range;
     places = rw (rx, put-items (d .rx) m) (h .places);
     whole = rw (rx, put-waits (d .rx) m (h .places) (room refl), ← h .whole) (sym (append-assoc (l .taken) (waiting (d .rx)) (m ∷ [])));
-    sized = one-more-sized (l .accepted) m (h .sized) size;
+    sized = each-more Sized (l .accepted) m (h .sized) size;
   }
   frame-kept false m e room size range rx = record { range = range; places = rw rx (h .places); whole = rw rx (h .whole); sized = h .sized }
 

@@ -1,5 +1,6 @@
 pub mod Choices
 pub mod Among
+pub mod Each
 pub mod Steps
 pub mod Lowest
 pub mod Answered
@@ -18,6 +19,7 @@ pub mod Parts
 pub mod EventKinds
 pub mod OutboxKept
 pub mod Outgoing
+pub mod Fields
 pub mod Counted
 pub mod Timed
 pub mod Seen

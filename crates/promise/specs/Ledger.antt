@@ -12,7 +12,7 @@ use Rattle.base.specs.Put.{putOf}
 use Rattle.fifo.specs.declared.Message.{Message}
 use Rattle.fifo.specs.Queue.{empty, absent, waiting}
 use Rattle.frame.specs.declared.Header.{Header}
-use Rattle.frame.specs.Length.{possible, dataOf}
+use Rattle.frame.specs.Length.{dataOf}
 use Rattle.frame.specs.Received.{headerIn, dataIn, timeIn, filterIn}
 use Rattle.filter.specs.Lowest.{filhit}
 use Rattle.filter.specs.declared.Hit.{Hit}
@@ -137,9 +137,12 @@ pub record Shows (d : Device) (h : Header) (payload : List ℕ) (m : Message) : 
 
 -- ---- the promises
 
--- what the ledger writes down of a frame has its fields as they arrived
-abbrev pub AsArrived : Type 0
-AsArrived = (d : Device) (h : Header) (payload : List ℕ) → possible h ≡ true → Shows d h payload (message d h payload)
+-- what the ledger writes down of a good frame shows its fields; of anything else it writes down no message
+abbrev pub Truly : Device → Meaning → Type 0
+Truly d (frame h payload earlier) = Shows d h payload (message d h payload)
+Truly d (reading verb) = Unit {0}
+Truly d clearing = Unit {0}
+Truly d other = Unit {0}
 
 module _ (step : Machine) where
   -- kept from what the rules say of the inputs
@@ -158,6 +161,10 @@ module _ (step : Machine) where
   abbrev pub Due : Type 0
   Due = (is : List Input) (i : Input)
       → Answers (hidden (run step fresh is)) (ledger is) (buffered i) (means (hidden (run step fresh is)) i) (step (run step fresh is) i .given)
+
+  -- After every sequence, what the ledger writes down of a frame, from the bus or our own, has its fields as they arrived.
+  abbrev pub AsArrived : Type 0
+  AsArrived = (is : List Input) (i : Input) → Truly (hidden (run step fresh is)) (means (hidden (run step fresh is)) i)
 
   -- The ledger kept from the answers actually given is the same ledger.
   abbrev pub Same : Type 0

@@ -58,7 +58,7 @@ abbrev pub TheAnswersKeepTheLedger : Type 0
 TheAnswersKeepTheLedger = Same shipped
 
 abbrev pub FieldsStandAsTheyArrived : Type 0
-FieldsStandAsTheyArrived = AsArrived
+FieldsStandAsTheyArrived = AsArrived shipped
 
 -- ---- 01's worked numbers (Worked)
 
