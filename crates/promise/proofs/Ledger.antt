@@ -7,10 +7,10 @@ use Rattle.chip.specs.State.{fresh}
 use Rattle.promise.specs.Promises.{NoFrameIsLost, EachAnswerIsDue, TheAnswersKeepTheLedger}
 use Rattle.promise.specs.Sequence.{Input, spi, wire, shipped as step, run, along}
 use Rattle.promise.specs.Meaning.{means}
-use Rattle.promise.specs.Ledger.{Ledger, start, entered, owed, told, hidden, ledger, buffered}
+use Rattle.promise.specs.Ledger.{Ledger, start, left, entered, owed, told, hidden, ledger, buffered}
 use Rattle.promise.proofs.Steps.{keeps}
 use Rattle.promise.proofs.Proper.{fresh-in}
-use Rattle.promise.proofs.Kept.{Kept, Agrees}
+use Rattle.promise.proofs.Kept.{Kept, Agrees, left-waits}
 use Rattle.promise.proofs.Transfers.{transfer-agrees}
 use Rattle.promise.proofs.Frames.{event-agrees}
 
@@ -30,6 +30,10 @@ whole is = always is .whole
 
 pub due : EachAnswerIsDue
 due is i = agrees (run step fresh is) (ledger step is) (always is) i .answers
+
+-- how many wait, counted in the ledger and by the device
+pub left-is : (is : List Input) → left (ledger step is) ≡ run step fresh is .rx .count
+left-is is = left-waits (run step fresh is) (ledger step is) (always is)
 
 heard-along : (d : Device) (l : Ledger) (is : List Input) → Kept d l
     → along step (λ d l i. entered l (told (hidden d) (means (hidden d) i) (step d i .given))) d l is

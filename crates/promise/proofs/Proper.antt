@@ -28,7 +28,7 @@ fresh-in = (empty-fits, empty-fits, empty-fits, refl, refl, refl, refl, refl, re
 pub reached-in : (is : List Input) → InRange (run step fresh is)
 reached-in is = keeps (λ d (u : Unit {0}) i. u) (λ d u. InRange d) (λ d u i h. stays d i h) fresh tt is fresh-in
 
-reached : (is : List Input) → proper (run step fresh is) ≡ true
+pub reached : (is : List Input) → proper (run step fresh is) ≡ true
 reached is = ranges-proper (run step fresh is) (reached-in is)
 
 row-one : (d : Device) (i : Input) → row d i 1 ≡ not (proper d)

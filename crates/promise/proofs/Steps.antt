@@ -1,7 +1,7 @@
 -- A step by its cases, and what holds at each step holds along a sequence. Assumes nothing.
 use mathlib.Core.Path.{_≡_, refl, _∙_, ap}
 use mathlib.Core.Bool.{Bool, true, false}
-use mathlib.Core.List.{List, [], _∷_}
+use mathlib.Core.List.{List, [], _∷_, _++_}
 use Prim.Native.Nat.{ℕ}
 use lib.Dec.{eqb}
 use lib.ListN.{length, take}
@@ -34,6 +34,16 @@ pub keeps : {A : Type 0} (note : Device → A → Input → A) (R : Device → A
     → (d : Device) (a : A) (is : List Input) → R d a → R (run step d is) (along step note d a is)
 keeps note R on d a [] h = h
 keeps note R on d a (i ∷ is) h = keeps note R on (step d i .device) (note d a i) is (on d a i h)
+
+-- a sequence with one input more
+pub run-more : (d : Device) (is : List Input) (i : Input) → run step d (is ++ (i ∷ [])) ≡ step (run step d is) i .device
+run-more d [] i = refl
+run-more d (j ∷ is) i = run-more (step d j .device) is i
+
+pub along-more : {A : Type 0} (note : Device → A → Input → A) (d : Device) (a : A) (is : List Input) (i : Input)
+    → along step note d a (is ++ (i ∷ [])) ≡ note (run step d is) (along step note d a is) i
+along-more note d a [] i = refl
+along-more note d a (j ∷ is) i = along-more note (step d j .device) (note d a j) is i
 
 -- ---- a transfer is refused, or done
 

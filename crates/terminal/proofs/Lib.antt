@@ -1,0 +1,4 @@
+pub mod Doing
+pub mod Serving
+pub mod Turns
+pub mod Shifts

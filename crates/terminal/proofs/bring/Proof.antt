@@ -1,0 +1,35 @@
+-- `terminal::bring` meets its contract. Assumes nothing.
+use mathlib.Core.Path.{_≡_, ap, _∙_}
+use mathlib.Core.List.{_++_, append-nil}
+use native.Mathlib.Omega.{arith}
+use borrow.Author.Needs.{needs}
+use lib.ListN.{length, take, drop, replicate}
+use lib.Seq.{take-all}
+use Rattle.bus.specs.declared.types.Outcome.{Outcome}
+use Rattle.terminal.proofs.bring.Statement.{statement}
+use Rattle.terminal.proofs.bring.Tie as tie
+
+slice-aggregate-copy : tie.Need-slice-aggregate-copy
+slice-aggregate-copy c = search needs
+
+copy-requires : tie.Need-copy-requires
+copy-requires c κs = search needs
+
+scanner-requires : tie.Need-scanner-requires
+scanner-requires c κs = search needs
+
+event-requires : tie.Need-event-requires
+event-requires c κs = search needs
+
+returns : tie.Need-returns
+returns c =
+    let start = c .before .before .before .before .before .before .before in
+    let scan = start .args .scan .now in
+    let eight : length scan ≡ 8 = start .pre in
+    let whole : take (length scan) scan ++ drop (length scan) (replicate 8 0) ≡ scan = rw eight (append-nil (take 8 scan) ∙ take-all 8 scan (omega arith)) in
+    ap (λ (o : Outcome). o .device) (c .before .event .ensures)
+    ∙ rw (c .before .before .scanner .ensures, c .before .before .before .before .copy .ensures .1, whole)
+
+pub bring-spec : {M : Type 1} → statement M
+bring-spec =
+    tie.close (tie.spec slice-aggregate-copy copy-requires scanner-requires event-requires returns)
