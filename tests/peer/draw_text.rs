@@ -22,7 +22,8 @@ const UNREADABLE: &str =
     rxerr|rxerr bus|rxerr bit counted|txerr bit|txerr bus counted|txerr bit maybe|\
     frame|frame 123|frame 12G std data 0 ack|frame 123 STD data 0 ack|frame 123 std text 0 ack|\
     frame 123 std data x ack|frame 123 std data A ack|frame 123 std data 0|\
-    frame 123 std data 1 ack 1|frame 123 std data 0 Ack";
+    frame 123 std data 1 ack 1|frame 123 std data 0 Ack|frame 123 std data 1 ack 00 ABC 1|\
+    frame 123456789ABCDEFG|frame 123456789ABCDEFGH|pins \"all\"|begin \\now|mr \u{7F}~!|\u{E9}";
 const EIGHT: &str = " 01 02 03 04 05 06 07 08";
 
 /// Says the same in another way: blanks, comments, empty lines before it.

@@ -1,4 +1,4 @@
-//! From the words of one line to a request, or to what was expected instead.
+//! From the words of one line to a request, or to the word that could not be read.
 
 use crate::bus::{Event, GoodFrame};
 
@@ -11,10 +11,19 @@ pub enum Request {
 /// Names what could not be found.
 pub type Expected = &'static str;
 
+pub struct Unreadable<'a> {
+    pub expected: Expected,
+    /// What stands in its place; empty where the line ends.
+    pub word: &'a [u8],
+}
+
+type Read<'a, T> = Result<T, Unreadable<'a>>;
+
 /// A reply buffer has at most this many bytes.
 pub const REPLY_BUFFER: usize = 16;
 
 const REQUEST: Expected = "a request: spi, frame, an event or pins";
+const ROOM: Expected = "spi, or spi/ and a buffer size from 0 to 16";
 const END: Expected = "nothing more on this line";
 
 /// ERR's bits 4 to 0.
@@ -28,29 +37,35 @@ const KINDS: [(&[u8], u8); 5] = [
 
 type Words<'a, 'b> = std::slice::Iter<'b, &'a [u8]>;
 
-pub fn read(words: &[&[u8]]) -> Result<Request, Expected> {
+/// An empty word where the line ends.
+fn next<'a>(rest: &mut Words<'a, '_>) -> &'a [u8] {
+    rest.next().copied().unwrap_or(b"")
+}
+
+pub fn read<'a>(words: &[&'a [u8]]) -> Read<'a, Request> {
     let mut rest = words.iter();
-    let first: &[u8] = rest.next().copied().unwrap_or(b"");
+    let first = next(&mut rest);
     let request = match first {
         b"pins" => Request::Pins,
         b"frame" => Request::Event(frame(&mut rest)?),
         _ if first.starts_with(b"spi") => {
-            let reply_room = match &first[3..] {
-                b"" => REPLY_BUFFER,
-                size => buffer_size(size)?,
-            };
+            let reply_room = found(buffer_size(&first[3..]), ROOM, first)?;
             let bytes = bytes(&mut rest)?;
             Request::Transfer { bytes, reply_room }
         }
         _ => Request::Event(event(first, &mut rest)?),
     };
-    match rest.next() {
-        None => Ok(request),
-        Some(_) => Err(END),
+    match next(&mut rest) {
+        b"" => Ok(request),
+        word => found(None, END, word),
     }
 }
 
-fn event(name: &[u8], rest: &mut Words) -> Result<Event, Expected> {
+fn found<T>(value: Option<T>, expected: Expected, word: &[u8]) -> Read<'_, T> {
+    value.ok_or(Unreadable { expected, word })
+}
+
+fn event<'a>(name: &'a [u8], rest: &mut Words<'a, '_>) -> Read<'a, Event> {
     Ok(match name {
         b"rxerr" => Event::ReceiveError(kind(rest)?),
         b"txerr" => Event::TransmitError {
@@ -67,11 +82,11 @@ fn event(name: &[u8], rest: &mut Words) -> Result<Event, Expected> {
         b"mr" => Event::MrPin,
         b"ticks" => Event::Ticks(ticks(rest)?),
         b"txen" => Event::TxenPin(either(rest, b"0", b"1", "0 or 1")?),
-        _ => return Err(REQUEST),
+        _ => return found(None, REQUEST, name),
     })
 }
 
-fn frame(rest: &mut Words) -> Result<Event, Expected> {
+fn frame<'a>(rest: &mut Words<'a, '_>) -> Read<'a, Event> {
     Ok(Event::GoodFrame(GoodFrame {
         identifier: number(rest, 16, "an identifier in hex")?,
         extended: either(rest, b"std", b"ext", "std or ext")?,
@@ -83,64 +98,72 @@ fn frame(rest: &mut Words) -> Result<Event, Expected> {
 }
 
 /// True for the second of two words.
-fn either(rest: &mut Words, no: &[u8], yes: &[u8], expected: Expected) -> Result<bool, Expected> {
-    match rest.next() {
-        Some(&word) if word == no => Ok(false),
-        Some(&word) if word == yes => Ok(true),
-        _ => Err(expected),
+fn either<'a>(
+    rest: &mut Words<'a, '_>,
+    no: &[u8],
+    yes: &[u8],
+    expected: Expected,
+) -> Read<'a, bool> {
+    let word = next(rest);
+    let place = [no, yes].iter().position(|&known| known == word);
+    found(place.map(|place| place == 1), expected, word)
+}
+
+fn kind<'a>(rest: &mut Words<'a, '_>) -> Read<'a, u8> {
+    let word = next(rest);
+    let named = KINDS.iter().find(|(name, _)| *name == word);
+    found(
+        named.map(|&(_, bit)| bit),
+        "stuff, ack, crc, form or bit",
+        word,
+    )
+}
+
+/// One digit or more.
+fn digits(word: &[u8], radix: u32) -> Option<Vec<u32>> {
+    let digits = word.iter().map(|&c| char::from(c).to_digit(radix));
+    let digits: Option<Vec<u32>> = digits.collect();
+    digits.filter(|digits| !digits.is_empty())
+}
+
+fn byte(word: &[u8]) -> Option<u8> {
+    match digits(word, 16)?[..] {
+        [high, low] => Some((high << 4 | low) as u8),
+        _ => None,
     }
 }
 
-fn kind(rest: &mut Words) -> Result<u8, Expected> {
-    let word: &[u8] = rest.next().copied().unwrap_or(b"");
-    let found = KINDS.iter().find(|(name, _)| *name == word);
-    found
-        .map(|&(_, bit)| bit)
-        .ok_or("stuff, ack, crc, form or bit")
-}
-
-fn digits(word: &[u8], radix: u32) -> Option<Vec<u32>> {
-    word.iter()
-        .map(|&c| char::from(c).to_digit(radix))
+fn bytes<'a>(rest: &mut Words<'a, '_>) -> Read<'a, Vec<u8>> {
+    rest.map(|word| found(byte(word), "a byte of two hex digits", word))
         .collect()
 }
 
-fn bytes(rest: &mut Words) -> Result<Vec<u8>, Expected> {
-    rest.map(|word| match digits(word, 16).as_deref() {
-        Some(&[high, low]) => Ok((high << 4 | low) as u8),
-        _ => Err("a byte of two hex digits"),
-    })
-    .collect()
-}
-
 /// A number of any size; what is too large for 32 bits stays too large for every field.
-fn number(rest: &mut Words, radix: u32, expected: Expected) -> Result<u32, Expected> {
-    let word: &[u8] = rest.next().copied().unwrap_or(b"");
-    let digits = digits(word, radix).ok_or(expected)?;
-    let append = |value: u32, &d: &u32| value.saturating_mul(radix).saturating_add(d);
-    match digits.len() {
-        0 => Err(expected),
-        _ => Ok(digits.iter().fold(0, append)),
-    }
+fn value(word: &[u8], radix: u32) -> Option<u32> {
+    let append = |value: u32, d: u32| value.saturating_mul(radix).saturating_add(d);
+    Some(digits(word, radix)?.into_iter().fold(0, append))
 }
 
-fn buffer_size(word: &[u8]) -> Result<usize, Expected> {
-    let expected = "spi, or spi/ and a buffer size from 0 to 16";
-    let size = word.strip_prefix(b"/").ok_or(expected)?;
-    match number(&mut [size].iter(), 10, expected)? as usize {
-        size if size <= REPLY_BUFFER => Ok(size),
-        _ => Err(expected),
+fn number<'a>(rest: &mut Words<'a, '_>, radix: u32, expected: Expected) -> Read<'a, u32> {
+    let word = next(rest);
+    found(value(word, radix), expected, word)
+}
+
+/// Of what follows `spi`.
+fn buffer_size(word: &[u8]) -> Option<usize> {
+    match word {
+        b"" => Some(REPLY_BUFFER),
+        _ => {
+            let size = value(word.strip_prefix(b"/")?, 10)? as usize;
+            Some(size).filter(|&size| size <= REPLY_BUFFER)
+        }
     }
 }
 
 /// The time tag wraps, so the remainder of a count of any length is all that is needed.
-fn ticks(rest: &mut Words) -> Result<u16, Expected> {
-    let expected = "a number of ticks in decimal";
-    let word: &[u8] = rest.next().copied().unwrap_or(b"");
-    let digits = digits(word, 10).ok_or(expected)?;
-    let append = |value: u16, &d: &u32| value.wrapping_mul(10).wrapping_add(d as u16);
-    match digits.len() {
-        0 => Err(expected),
-        _ => Ok(digits.iter().fold(0, append)),
-    }
+fn ticks<'a>(rest: &mut Words<'a, '_>) -> Read<'a, u16> {
+    let word = next(rest);
+    let append = |value: u16, d: u32| value.wrapping_mul(10).wrapping_add(d as u16);
+    let count = digits(word, 10).map(|digits| digits.into_iter().fold(0, append));
+    found(count, "a number of ticks in decimal", word)
 }

@@ -1,12 +1,16 @@
 //! A script, byte by byte: its lines, and the text of each answer.
 
 use crate::device::Device;
-use crate::request::{read, Request};
+use crate::request::{read, Request, Unreadable};
 
 /// A longer line, counted from its first word up to any `#`, is not looked into.
 pub const LONGEST_LINE: usize = 65536;
 
-const TOO_LONG: &str = "a line of at most 65536 bytes";
+/// Of a longer word this many bytes are told.
+const LONGEST_WORD: usize = 16;
+
+const EXPECTED: &str = ": expected ";
+const READ: &str = ", read ";
 
 pub struct Session {
     pub device: Device,
@@ -19,6 +23,25 @@ pub struct Session {
 
 fn blank(byte: u8) -> bool {
     matches!(byte, b' ' | b'\t' | b'\r')
+}
+
+/// A byte that shows as itself, or its number.
+fn letter(byte: u8) -> String {
+    if (0x21..=0x7E).contains(&byte) && !b"\"\\".contains(&byte) {
+        char::from(byte).to_string()
+    } else {
+        format!("\\x{:02X}", byte)
+    }
+}
+
+/// What was read, where it was something else that was expected.
+fn told(word: &[u8]) -> String {
+    if word.is_empty() {
+        return "the end of the line".to_string();
+    }
+    let shown: String = word.iter().take(LONGEST_WORD).map(|&b| letter(b)).collect();
+    let more = if word.len() > LONGEST_WORD { "..." } else { "" };
+    format!("\"{}\"{}", shown, more)
 }
 
 impl Session {
@@ -55,18 +78,19 @@ impl Session {
             return None;
         }
         if line.len() > LONGEST_LINE {
-            return Some(self.unreadable(TOO_LONG));
+            return Some(self.unreadable("a line of at most 65536 bytes", "a longer one"));
         }
         let words = line.split(|&byte| blank(byte));
         let words: Vec<&[u8]> = words.filter(|word| !word.is_empty()).collect();
         Some(match read(&words) {
             Ok(request) => self.answer(request),
-            Err(expected) => self.unreadable(expected),
+            Err(Unreadable { expected, word }) => self.unreadable(expected, &told(word)),
         })
     }
 
-    fn unreadable(&self, expected: &str) -> String {
-        format!("? line {}: expected {}", self.line_number, expected)
+    fn unreadable(&self, expected: &str, read: &str) -> String {
+        let line = self.line_number;
+        format!("? line {}{}{}{}{}", line, EXPECTED, expected, READ, read)
     }
 
     fn answer(&mut self, request: Request) -> String {
@@ -93,10 +117,20 @@ impl Session {
     }
 }
 
-/// Whether the program's answer agrees with the model's. The words after "expected" are free.
+/// What is fixed of the answer to an unreadable line: all but how it names what was expected.
+fn fixed(model: &str) -> Option<(&str, &str)> {
+    let start = model.find(EXPECTED)? + EXPECTED.len();
+    // A word has no blanks, so the last is the one before what was read.
+    let end = model.rfind(READ)?;
+    Some((&model[..start], &model[end..]))
+}
+
+/// Whether the program's answer agrees with the model's.
 pub fn agrees(program: &[u8], model: &str) -> bool {
-    match model.find(": expected ") {
-        Some(end) => program.starts_with(&model.as_bytes()[..end + ": expected ".len()]),
+    match fixed(model) {
+        Some((start, end)) => {
+            program.starts_with(start.as_bytes()) && program.ends_with(end.as_bytes())
+        }
         None => program == model.as_bytes(),
     }
 }

@@ -3,7 +3,7 @@ use crate::device;
 use crate::text::bytes;
 use crate::text::decimal;
 use crate::text::pin;
-use crate::text::put;
+use crate::text::raw;
 use crate::text::text;
 use chip::Device;
 use events::Event;
@@ -49,13 +49,45 @@ fn complaint(out: &mut [u8], at: usize, number: u64) -> usize {
 
 pub(crate) fn too_long(out: &mut [u8], at: usize, number: u64) -> usize {
     let n = complaint(out, at, number);
-    text(out, n, b"a line of at most 65536 bytes\n")
+    let n = text(out, n, b"a line of at most 65536 bytes, read a longer one");
+    raw(out, n, b'\n')
 }
 
-fn unreadable(out: &mut [u8], at: usize, number: u64, e: Expected) -> usize {
+// A word between quotes, as far as it is there: `count` is the length of the whole.
+fn quoted(out: &mut [u8], at: usize, word: &[u8], count: usize) -> usize {
+    let n = raw(out, at, b'"');
+    if count <= word.len() {
+        let n = text(out, n, &word[0..count]);
+        raw(out, n, b'"')
+    } else {
+        let n = text(out, n, word);
+        let n = raw(out, n, b'"');
+        text(out, n, b"...")
+    }
+}
+
+// What was read instead.
+fn read(out: &mut [u8], at: usize, word: [u8; 16], count: usize) -> usize {
+    let n = text(out, at, b", read ");
+    if count == 0 {
+        text(out, n, b"the end of the line")
+    } else {
+        quoted(out, n, &word, count)
+    }
+}
+
+fn unreadable(
+    e: Expected,
+    word: [u8; 16],
+    count: usize,
+    number: u64,
+    out: &mut [u8],
+    at: usize,
+) -> usize {
     let n = complaint(out, at, number);
     let n = expected(out, n, e);
-    put(out, n, b'\n')
+    let n = read(out, n, word, count);
+    raw(out, n, b'\n')
 }
 
 fn transfer(d: Device, sent: [u8; 16], count: usize, room: u8, out: &mut [u8], at: usize) -> Turn {
@@ -64,7 +96,7 @@ fn transfer(d: Device, sent: [u8; 16], count: usize, room: u8, out: &mut [u8], a
     let reply = t.reply;
     let n = decimal(out, at, t.number as u64);
     let n = bytes(out, n, reply, t.count);
-    let used = put(out, n, b'\n');
+    let used = raw(out, n, b'\n');
     Turn { device, used }
 }
 
@@ -92,7 +124,7 @@ fn happens(d: Device, event: Event, payload: [u8; 16], out: &mut [u8], at: usize
     let device = o.device;
     let a = o.answer;
     let n = said(out, at, a);
-    let used = put(out, n, b'\n');
+    let used = raw(out, n, b'\n');
     Turn { device, used }
 }
 
@@ -102,7 +134,7 @@ fn pins(d: Device, out: &mut [u8], at: usize) -> usize {
     let n = pin(out, n, b" stat=", p.stat);
     let n = pin(out, n, b" gp1=", p.gp1);
     let n = pin(out, n, b" gp2=", p.gp2);
-    put(out, n, b'\n')
+    raw(out, n, b'\n')
 }
 
 // A blank line has no answer.
@@ -123,7 +155,7 @@ pub(crate) fn answer(d: Device, line: &[u8], number: u64, out: &mut [u8], at: us
             Turn { device: d, used }
         }
         Asked::Unreadable(e) => {
-            let used = unreadable(out, at, number, e);
+            let used = unreadable(e, given, count, number, out, at);
             Turn { device: d, used }
         }
     }

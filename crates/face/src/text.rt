@@ -1,11 +1,51 @@
 // Text at a place of the buffer of answers. Each function gives back the place after it. What finds no room is left out;
 // the buffer is written before that can happen.
-pub(crate) fn put(out: &mut [u8], at: usize, b: u8) -> usize {
+
+// A byte as it is.
+pub(crate) fn raw(out: &mut [u8], at: usize, b: u8) -> usize {
     if at < out.len() {
         out[at] = b;
         at + 1
     } else {
         at
+    }
+}
+
+// A digit of base 16, upper case.
+fn digit(d: u8) -> u8 {
+    if d < 10 {
+        b'0' + d
+    } else {
+        b'A' + (d - 10) % 6
+    }
+}
+
+pub(crate) fn hex(out: &mut [u8], at: usize, b: u8) -> usize {
+    let n = raw(out, at, digit(b / 16));
+    raw(out, n, digit(b % 16))
+}
+
+// Whether a byte shows as itself, also between quotes.
+fn is_plain(b: u8) -> bool {
+    if b < b' ' {
+        false
+    } else if b == b'"' {
+        false
+    } else if b == b'\\' {
+        false
+    } else {
+        b <= b'~'
+    }
+}
+
+// A byte so that it can be read: what a script brings may hold any.
+fn put(out: &mut [u8], at: usize, b: u8) -> usize {
+    if is_plain(b) {
+        raw(out, at, b)
+    } else {
+        let n = raw(out, at, b'\\');
+        let n = raw(out, n, b'x');
+        hex(out, n, b)
     }
 }
 
@@ -23,20 +63,6 @@ pub(crate) fn decimal(out: &mut [u8], at: usize, n: u64) -> usize {
     let mut digits = [0u8; 20];
     let k = io::decimal(n, &mut digits);
     text(out, at, &digits[..k])
-}
-
-// A digit of base 16, upper case.
-fn digit(d: u8) -> u8 {
-    if d < 10 {
-        b'0' + d
-    } else {
-        b'A' + (d - 10) % 6
-    }
-}
-
-pub(crate) fn hex(out: &mut [u8], at: usize, b: u8) -> usize {
-    let n = put(out, at, digit(b / 16));
-    put(out, n, digit(b % 16))
 }
 
 // A space before each byte.

@@ -8,12 +8,13 @@ use Rattle.events.specs.declared.Event.the-variants.{GoodFrame, ReceiveError, T
 use Rattle.line.specs.declared.Asked.the-variants.{Nothing, Transfer, Happens, Pins, Unreadable}
 use Rattle.line.specs.declared.Expected.the-variants.{Request, Byte, Room, Identifier, StdOrExt, AckOrNoack, CountedOrExempt, EndOfLine}
 use Rattle.line.specs.Numbers.{digitOf, isNumber, valueOf, isByte}
+use Rattle.line.specs.Words.{choiceOf}
 use Rattle.line.specs.Text.{ascii}
 use Rattle.line.specs.Request.{
   plain,
+  unreadable,
   withData,
   ending,
-  choiceOf,
   transferOf,
   sizedOf,
   frameData,
@@ -51,10 +52,11 @@ lines =
     "" ∷
     "# nothing" ∷
     "Pins" ∷
-    "spi 1" ∷
+    "spi 12 0x 1" ∷
     "spi/17" ∷
     "frame" ∷
     "frame 1 standard" ∷
+    "frame 1 standardidentifier" ∷
     "frame 1 std data 0 nack" ∷
     "txerr form" ∷
     "pins 1" ∷
@@ -74,14 +76,15 @@ pub worked : map (λ (t : String). readLine (ascii t)) lines
     plain Pins ∷
     plain Nothing ∷
     plain Nothing ∷
-    plain (Unreadable Request) ∷
-    plain (Unreadable Byte) ∷
-    plain (Unreadable Room) ∷
+    unreadable Request (ascii "Pins") ∷
+    unreadable Byte (ascii "0x") ∷
+    unreadable Room (ascii "spi/17") ∷
     plain (Unreadable Identifier) ∷
-    plain (Unreadable StdOrExt) ∷
-    plain (Unreadable AckOrNoack) ∷
+    unreadable StdOrExt (ascii "standard") ∷
+    record { asked = Unreadable StdOrExt; bytes = ascii "standardidentifi"; count = 18 } ∷
+    unreadable AckOrNoack (ascii "nack") ∷
     plain (Unreadable CountedOrExempt) ∷
-    plain (Unreadable EndOfLine) ∷
+    unreadable EndOfLine (ascii "1") ∷
     []
 unfolding digitOf isNumber valueOf isByte ending choiceOf transferOf sizedOf frameData frameAck frameCode frameRemote frameKind frameOf kindOf rxerrOf txerrCounted txerrOf ticksOf txenOf aloneOf loneOf namedOf requestOf readLine
 worked = refl

@@ -12,6 +12,11 @@ abbrev pub areBytes : List (List ℕ) → Bool
 areBytes [] = true
 areBytes (w ∷ ws) = isByte w && areBytes ws
 
+-- where not all are bytes, the first that isn't
+abbrev pub firstOther : List (List ℕ) → List ℕ
+firstOther [] = []
+firstOther (w ∷ ws) = pick (isByte w) (firstOther ws) w
+
 -- Of more than sixteen the first sixteen are kept and counted. No command takes more than fifteen and no frame has more than
 -- eight, so sixteen are refused as more would be.
 abbrev pub kept : List (List ℕ) → List ℕ
@@ -20,13 +25,18 @@ kept ws = take 16 (map (valueOf 16) ws)
 abbrev pub filled : List ℕ → List ℕ
 filled bytes = bytes ++ replicate (16 - length bytes) 0
 
+-- as much of a word as a line keeps
+abbrev pub head : List ℕ → List ℕ
+head w = filled (take 16 w)
+
 -- ---- for the reader's own steps
 
-abbrev pub noData : Data
-noData = record { good = false; bytes = replicate 16 0; count = 0 }
+-- in place of data, a word that is no byte
+abbrev pub noData : List ℕ → Data
+noData w = record { good = false; bytes = head w; count = length w }
 
 unfoldable pub dataOf : List (List ℕ) → Data
-dataOf ws = pick (areBytes ws) (record { good = true; bytes = filled (kept ws); count = length (kept ws) }) noData
+dataOf ws = pick (areBytes ws) (record { good = true; bytes = filled (kept ws); count = length (kept ws) }) (noData (firstOther ws))
 
 -- one byte more, where there is room
 unfoldable pub keepOf : Data → ℕ → Data

@@ -1,5 +1,5 @@
 -- What a line asks for: the requests of `face`, word by word. A request is judged from left to right, and the first word that
--- is wrong decides; a missing word is read as an empty one, and so is wrong.
+-- is wrong decides and is told; a missing word is read as an empty one, and so is wrong.
 use mathlib.Core.Bool.{Bool, true, false, _&&_}
 use mathlib.Core.List.{List, [], _∷_}
 use Prim.Native.Nat.{ℕ, _%_, min}
@@ -19,15 +19,16 @@ use Rattle.line.specs.declared.Expected.the-variants.{ZeroOrOne, EndOfLi
 use Rattle.line.specs.declared.Asked.{Asked}
 use Rattle.line.specs.declared.Asked.the-variants.{Nothing, Transfer, Happens, Pins, Unreadable}
 use Rattle.line.specs.declared.Line.{Line}
-use Rattle.line.specs.declared.requests.Choice.{Choice}
-use Rattle.line.specs.declared.requests.Choice.the-variants.{Yes, No, Neither}
-use Rattle.line.specs.declared.requests.Kind.{Kind}
-use Rattle.line.specs.declared.requests.Kind.the-variants.{Is, Other}
+use Rattle.line.specs.declared.data.Data.{Data}
+use Rattle.line.specs.declared.words.Choice.{Choice}
+use Rattle.line.specs.declared.words.Choice.the-variants.{Yes, No, Neither}
+use Rattle.line.specs.declared.errors.Kind.{Kind}
+use Rattle.line.specs.declared.errors.Kind.the-variants.{Is, Other}
 use Rattle.line.specs.declared.requests.Alone.{Alone}
 use Rattle.line.specs.declared.requests.Alone.the-variants.{Asks, Unknown}
-use Rattle.line.specs.Words.{uncommented, wordsOf, first, rest, same}
+use Rattle.line.specs.Words.{uncommented, wordsOf, first, rest, same, choiceOf}
 use Rattle.line.specs.Numbers.{isNumber, valueOf, most}
-use Rattle.line.specs.Data.{areBytes, kept, filled}
+use Rattle.line.specs.Data.{areBytes, firstOther, kept, filled, head}
 use Rattle.line.specs.Text.{ascii}
 
 -- ---- answers
@@ -36,62 +37,73 @@ use Rattle.line.specs.Text.{ascii}
 abbrev pub plain : Asked → Line
 plain a = record { asked = a; bytes = replicate 16 0; count = 0 }
 
-abbrev pub unreadable : Expected → Line
-unreadable e = plain (Unreadable e)
+-- the word that was read where e was expected: its first sixteen bytes and its whole length, which is 0 where no word is left
+abbrev pub unreadable : Expected → List ℕ → Line
+unreadable e w = record { asked = Unreadable e; bytes = head w; count = length w }
 
--- a word that has to be right for the request to be l
-abbrev pub need : Bool → Expected → Line → Line
-need right e l = pick right l (unreadable e)
+-- a word w that has to be right for the request to be l
+abbrev pub need : Bool → Expected → List ℕ → Line → Line
+need right e w l = pick right l (unreadable e w)
 
 -- a complete request is followed by nothing
 unfoldable pub ending : Asked → List (List ℕ) → Line
 ending a [] = plain a
-ending a (w ∷ ws) = unreadable EndOfLine
+ending a (w ∷ ws) = unreadable EndOfLine w
 
 abbrev pub withData : Asked → List ℕ → Line
 withData a bytes = record { asked = a; bytes = filled bytes; count = length bytes }
 
--- one word of two
-unfoldable pub choiceOf : List ℕ → List ℕ → List ℕ → Choice
-choiceOf w one other = pick (same w one) Yes (pick (same w other) No Neither)
+-- the same for the reader's own steps: a request with data that have been judged
+unfoldable pub carrying : Asked → Data → Line
+carrying a d = record { asked = pick (d .good) a (Unreadable Byte); bytes = d .bytes; count = d .count }
 
-abbrev pub chosen : Choice → Expected → (Bool → Line) → Line
-chosen Yes e request = request true
-chosen No e request = request false
-chosen Neither e request = unreadable e
+abbrev pub chosen : Choice → Expected → List ℕ → (Bool → Line) → Line
+chosen Yes e w request = request true
+chosen No e w request = request false
+chosen Neither e w request = unreadable e w
 
 -- ---- `spi B B …`: a reply buffer of sixteen bytes; `spi/N B B …`: one of N, in decimal, 0 to 16
 
 unfoldable pub transferOf : ℕ → List (List ℕ) → Line
-transferOf room ws = need (areBytes ws) Byte (withData (Transfer room) (kept ws))
+transferOf room ws = need (areBytes ws) Byte (firstOther ws) (withData (Transfer room) (kept ws))
 
 unfoldable pub sizedOf : List ℕ → List (List ℕ) → Line
-sizedOf n ws = need (isNumber 10 n && leb (valueOf 10 n) 16) Room (transferOf (valueOf 10 n) ws)
+sizedOf w ws =
+    need (isNumber 10 (drop 4 w) && leb (valueOf 10 (drop 4 w)) 16) Room w
+    (transferOf (valueOf 10 (drop 4 w)) ws)
 
 -- ---- `frame ID std|ext data|remote CODE ack|noack B B …`, from the last word to the first
 
 unfoldable pub frameData : Header → Bool → List (List ℕ) → Line
-frameData h acked ws = need (areBytes ws) Byte (withData (Happens (GoodFrame h acked (length (kept ws)))) (kept ws))
+frameData h acked ws =
+    need (areBytes ws) Byte (firstOther ws)
+    (withData (Happens (GoodFrame h acked (length (kept ws)))) (kept ws))
 
 unfoldable pub frameAck : Header → List (List ℕ) → Line
-frameAck h ws = chosen (choiceOf (first ws) (ascii "ack") (ascii "noack")) AckOrNoack (λ acked. frameData h acked (rest ws))
+frameAck h ws =
+    chosen (choiceOf (first ws) (ascii "ack") (ascii "noack")) AckOrNoack (first ws)
+    (λ acked. frameData h acked (rest ws))
 
 -- A code above 255 is kept as 255, which is as impossible.
 unfoldable pub frameCode : ℕ → Bool → Bool → List (List ℕ) → Line
 frameCode id extended remote ws =
-    need (isNumber 10 (first ws)) LengthCode
+    need (isNumber 10 (first ws)) LengthCode (first ws)
     (frameAck (record { id = id; extended = extended; remote = remote; code = min (valueOf 10 (first ws)) 255 }) (rest ws))
 
 unfoldable pub frameRemote : ℕ → Bool → List (List ℕ) → Line
 frameRemote id extended ws =
-    chosen (choiceOf (first ws) (ascii "remote") (ascii "data")) DataOrRemote (λ remote. frameCode id extended remote (rest ws))
+    chosen (choiceOf (first ws) (ascii "remote") (ascii "data")) DataOrRemote (first ws)
+    (λ remote. frameCode id extended remote (rest ws))
 
 unfoldable pub frameKind : ℕ → List (List ℕ) → Line
 frameKind id ws =
-    chosen (choiceOf (first ws) (ascii "ext") (ascii "std")) StdOrExt (λ extended. frameRemote id extended (rest ws))
+    chosen (choiceOf (first ws) (ascii "ext") (ascii "std")) StdOrExt (first ws)
+    (λ extended. frameRemote id extended (rest ws))
 
 unfoldable pub frameOf : List (List ℕ) → Line
-frameOf ws = need (isNumber 16 (first ws)) Identifier (frameKind (min (valueOf 16 (first ws)) most) (rest ws))
+frameOf ws =
+    need (isNumber 16 (first ws)) Identifier (first ws)
+    (frameKind (min (valueOf 16 (first ws)) most) (rest ws))
 
 -- ---- `rxerr KIND`, `txerr KIND counted|exempt`
 
@@ -104,29 +116,33 @@ kindOf w =
     (pick (same w (ascii "bit")) (Is Bit)
     Other))))
 
-abbrev pub onKind : Kind → (ErrorKind → Line) → Line
-onKind (Is k) request = request k
-onKind Other request = unreadable Error
+abbrev pub onKind : Kind → List ℕ → (ErrorKind → Line) → Line
+onKind (Is k) w request = request k
+onKind Other w request = unreadable Error w
 
 unfoldable pub rxerrOf : List (List ℕ) → Line
-rxerrOf ws = onKind (kindOf (first ws)) (λ k. ending (Happens (ReceiveError k)) (rest ws))
+rxerrOf ws = onKind (kindOf (first ws)) (first ws) (λ k. ending (Happens (ReceiveError k)) (rest ws))
 
 unfoldable pub txerrCounted : ErrorKind → List (List ℕ) → Line
 txerrCounted k ws =
-    chosen (choiceOf (first ws) (ascii "counted") (ascii "exempt")) CountedOrExempt
+    chosen (choiceOf (first ws) (ascii "counted") (ascii "exempt")) CountedOrExempt (first ws)
     (λ counts. ending (Happens (TransmitError k counts)) (rest ws))
 
 unfoldable pub txerrOf : List (List ℕ) → Line
-txerrOf ws = onKind (kindOf (first ws)) (λ k. txerrCounted k (rest ws))
+txerrOf ws = onKind (kindOf (first ws)) (first ws) (λ k. txerrCounted k (rest ws))
 
 -- ---- `ticks N`, `txen 0|1`
 
 -- The count is kept modulo 65536, which is all that a time tag of 16 bits can show of it.
 unfoldable pub ticksOf : List (List ℕ) → Line
-ticksOf ws = need (isNumber 10 (first ws)) Count (ending (Happens (Ticks (valueOf 10 (first ws) % 65536))) (rest ws))
+ticksOf ws =
+    need (isNumber 10 (first ws)) Count (first ws)
+    (ending (Happens (Ticks (valueOf 10 (first ws) % 65536))) (rest ws))
 
 unfoldable pub txenOf : List (List ℕ) → Line
-txenOf ws = chosen (choiceOf (first ws) (ascii "1") (ascii "0")) ZeroOrOne (λ high. ending (Happens (TxenPin high)) (rest ws))
+txenOf ws =
+    chosen (choiceOf (first ws) (ascii "1") (ascii "0")) ZeroOrOne (first ws)
+    (λ high. ending (Happens (TxenPin high)) (rest ws))
 
 -- ---- the request's own word, w, and what follows it
 
@@ -144,17 +160,17 @@ aloneOf w =
     (pick (same w (ascii "pins")) (Asks Pins)
     Unknown))))))))
 
-abbrev pub onAlone : Alone → List (List ℕ) → Line
-onAlone (Asks a) ws = ending a ws
-onAlone Unknown ws = unreadable Request
+abbrev pub onAlone : Alone → List ℕ → List (List ℕ) → Line
+onAlone (Asks a) w ws = ending a ws
+onAlone Unknown w ws = unreadable Request w
 
 unfoldable pub loneOf : List ℕ → List (List ℕ) → Line
-loneOf w ws = onAlone (aloneOf w) ws
+loneOf w ws = onAlone (aloneOf w) w ws
 
 unfoldable pub namedOf : List ℕ → List (List ℕ) → Line
 namedOf w ws =
     pick (same w (ascii "spi")) (transferOf 16 ws)
-    (pick (same (take 4 w) (ascii "spi/")) (sizedOf (drop 4 w) ws)
+    (pick (same (take 4 w) (ascii "spi/")) (sizedOf w ws)
     (pick (same w (ascii "frame")) (frameOf ws)
     (pick (same w (ascii "rxerr")) (rxerrOf ws)
     (pick (same w (ascii "txerr")) (txerrOf ws)

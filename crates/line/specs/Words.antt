@@ -6,6 +6,8 @@ use Prim.Native.Nat.{ℕ, suc, _-_, _<_, _≤_}
 use lib.Dec.{eqb}
 use lib.ListN.{length, take, drop, getD}
 use Rattle.base.specs.Pick.{pick}
+use Rattle.line.specs.declared.words.Choice.{Choice}
+use Rattle.line.specs.declared.words.Choice.the-variants.{Yes, No, Neither}
 use Rattle.line.specs.declared.words.Span.{Span}
 
 -- What follows `#` is passed over: the bytes before the first one.
@@ -43,6 +45,10 @@ same [] [] = true
 same [] (b ∷ t) = false
 same (a ∷ s) [] = false
 same (a ∷ s) (b ∷ t) = eqb a b && same s t
+
+-- one word of two
+unfoldable pub choiceOf : List ℕ → List ℕ → List ℕ → Choice
+choiceOf w one other = pick (same w one) Yes (pick (same w other) No Neither)
 
 -- ---- for the reader's own steps
 

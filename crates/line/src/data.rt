@@ -1,9 +1,9 @@
 // The data of a request: the bytes that its last words spell.
 ghost use mathlib.Core.Path.{_≡_};
-ghost use Prim.Native.Nat.{_≤_};
+ghost use Prim.Native.Nat.{_≤_, min};
 ghost use lib.ListN.{length, drop};
 ghost use Rattle.line.specs.Words.{wordsOf};
-ghost use Rattle.line.specs.Data.{dataOf, keepOf, noData};
+ghost use Rattle.line.specs.Data.{dataOf, keepOf, noData, head};
 use crate::numbers::byte;
 use crate::numbers::is_byte;
 use crate::words::word;
@@ -11,6 +11,7 @@ use crate::words::word;
 pub struct Data {
     // Every word is a byte.
     pub good: bool,
+    // The bytes, or else the first word that is none, as a line keeps it.
     pub bytes: [u8; 16],
     pub count: usize,
 }
@@ -30,13 +31,32 @@ fn keep(d: Data, b: u8) -> Data
     }
 }
 
-fn no_data() -> Data
-    ensures { λ r. ⌜ r ≡ noData ⌝ }
+fn at_most_16(n: usize) -> usize
+    ensures { λ r. ⌜ r ≡ min n 16 ⌝ }
 {
+    if n < 16 { n } else { 16 }
+}
+
+// As much of a word as a line keeps, then zeros.
+pub(crate) fn head(word: &[u8]) -> [u8; 16]
+    ensures { λ r. ⌜ r ≡ head (now (word .entry)) ⌝ }
+{
+    let n = at_most_16(word.len());
+    let mut bytes = [0u8; 16];
+    base::put(&word[..n], &mut bytes);
+    bytes
+}
+
+// In place of data, the word that is no byte.
+fn no_data(word: &[u8]) -> Data
+    ensures { λ r. ⌜ r ≡ noData (now (word .entry)) ⌝ }
+{
+    let bytes = head(word);
+    let count = word.len();
     Data {
         good: false,
-        bytes: [0u8; 16],
-        count: 0,
+        bytes,
+        count,
     }
 }
 
@@ -62,7 +82,7 @@ pub(crate) fn gather(s: &[u8], at: usize) -> Data
             d = keep(d, byte(&s[from..to]));
             i = to;
         } else {
-            return no_data();
+            return no_data(&s[from..to]);
         }
     }
 }

@@ -2,12 +2,19 @@
 ghost use mathlib.Core.Path.{_≡_};
 ghost use Prim.Native.Nat.{_+_, _≤_};
 ghost use lib.ListN.{length, drop};
-ghost use Rattle.line.specs.Words.{beforeComment, isBlank, same, blanks, letters, Found};
+ghost use Rattle.line.specs.Words.{beforeComment, isBlank, same, choiceOf, blanks, letters, Found};
 
 // The places where a word begins and ends. With no word left, both are one place.
 pub struct Span {
     pub from: usize,
     pub to: usize,
+}
+
+// Which of two words.
+pub enum Choice {
+    Yes,
+    No,
+    Neither,
 }
 
 fn is_blank(b: u8) -> bool
@@ -93,5 +100,17 @@ pub(crate) fn is(word: &[u8], text: &[u8]) -> bool
         true
     } else {
         false
+    }
+}
+
+pub(crate) fn choose(word: &[u8], one: &[u8], other: &[u8]) -> Choice
+    ensures { λ r. ⌜ r ≡ choiceOf (now (word .entry)) (now (one .entry)) (now (other .entry)) ⌝ }
+{
+    if is(word, one) {
+        Choice::Yes
+    } else if is(word, other) {
+        Choice::No
+    } else {
+        Choice::Neither
     }
 }

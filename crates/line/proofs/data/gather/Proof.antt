@@ -80,17 +80,26 @@ loop-again c =
           ∙ l .inv .1,
     )
 
+sub-no-data : tie.Need-sub-no-data Inv-loop μ-loop
+sub-no-data c = c .before .before .before .before .word .ensures .order
+
+part-no-data-start : tie.Need-part-no-data-start Inv-loop μ-loop
+part-no-data-start c = c .before .before .before .before .word .ensures .order
+
+part-no-data-end : tie.Need-part-no-data-end Inv-loop μ-loop
+part-no-data-end c = c .before .before .before .before .word .ensures .within
+
 no-data-requires : tie.Need-no-data-requires Inv-loop μ-loop
 no-data-requires c κs = search needs
 
 returns-2 : tie.Need-returns-2 Inv-loop μ-loop
 returns-2 c =
-    let a = c .before .before .before .before .before .before .before .before .args in
-    let l = c .before .before .before .before .before .before .loop in
-    let r = c .before .before .before .before .before .word .result in
-    let f = c .before .before .before .before .before .word .ensures in
+    let a = c .before .before .before .before .before .before .before .before .before .args in
+    let l = c .before .before .before .before .before .before .before .loop in
+    let r = c .before .before .before .before .before .before .word .result in
+    let f = c .before .before .before .before .before .before .word .ensures in
     c .no-data .ensures
-    ∙ sym (gathered-off (a .s .now) (l .i) r f (l .d) (omega (arith, f .order)) (sym (c .before .before .is-byte .ensures) ∙ c .before .if2 .left))
+    ∙ sym (gathered-off (a .s .now) (l .i) r f (l .d) (omega (arith, f .order)) (sym (c .before .before .before .is-byte .ensures) ∙ c .before .before .if2 .left))
     ∙ l .inv .1
 
 pub gather-spec : {M : Type 1} → statement M
@@ -113,5 +122,8 @@ gather-spec =
     keep-requires
     loop-less
     loop-again
+    sub-no-data
+    part-no-data-start
+    part-no-data-end
     no-data-requires
     returns-2)

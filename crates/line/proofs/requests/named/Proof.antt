@@ -8,7 +8,6 @@ use Rattle.line.specs.Text.{ascii}
 use Rattle.line.specs.Words.{same}
 use Rattle.line.specs.Request.{namedOf}
 use lib.ListN.{take}
-use borrow.Rule.Slice.PartAt.{part-to-end}
 use Rattle.line.proofs.Runs.{begins-long}
 use borrow.Author.Needs.{needs}
 use Rattle.line.proofs.requests.named.Statement.{statement}
@@ -86,21 +85,12 @@ transfer-requires c κs = search needs
 is-sized-requires : tie.Need-is-sized-requires
 is-sized-requires c κs = search needs
 
-sub-sized : tie.Need-sub-sized
-sub-sized c =
-    begins-long (c .before .before .before .before .before .before .before .args .word .now) (ascii "spi/")
-    (sym (c .before .is-sized .ensures) ∙ c .if2 .taken)
-
-part-sized-start : tie.Need-part-sized-start
-part-sized-start c =
-    begins-long (c .before .before .before .before .before .before .before .args .word .now) (ascii "spi/")
-    (sym (c .before .is-sized .ensures) ∙ c .if2 .taken)
-
-part-sized-end : tie.Need-part-sized-end
-part-sized-end c = search needs
-
 sized-requires : tie.Need-sized-requires
-sized-requires c κs = search needs
+sized-requires c κs = (
+  begins-long (c .before .before .before .before .before .before .before .args .word .now) (ascii "spi/")
+      (sym (c .before .is-sized .ensures) ∙ c .if2 .taken),
+  search needs,
+)
 
 slice-aggregate-is-2 : tie.Need-slice-aggregate-is-2
 slice-aggregate-is-2 c = search needs
@@ -157,8 +147,8 @@ returns c = pick-yes _ _ _ _ _ (sym (c .before .before .is .ensures) ∙ c .befo
 returns-2 : tie.Need-returns-2
 unfolding namedOf
 returns-2 c =
-    pick-no _ _ _ _ _ (not-1 (c .before .before .before .before))
-    (pick-yes _ _ _ _ _ (sym (c .before .before .before .is-sized .ensures) ∙ c .before .before .if2 .taken) (c .sized .ensures ∙ rw (part-to-end (word-1 (c .before .before .before .before)) 4)))
+    pick-no _ _ _ _ _ (not-1 (c .before .before .before))
+    (pick-yes _ _ _ _ _ (sym (c .before .before .is-sized .ensures) ∙ c .before .if2 .taken) (c .sized .ensures))
 
 returns-3 : tie.Need-returns-3
 unfolding namedOf
@@ -224,9 +214,6 @@ named-spec =
     is-requires
     transfer-requires
     is-sized-requires
-    sub-sized
-    part-sized-start
-    part-sized-end
     sized-requires
     slice-aggregate-is-2
     is-requires-2

@@ -8,7 +8,7 @@ use lib.ListN.{drop}
 use Rattle.line.specs.Words.{wordsOf}
 use Rattle.line.specs.Numbers.{isNumber, valueOf}
 use Rattle.line.specs.Request.{ticksOf, ending}
-use Rattle.line.proofs.Answers.{word-right, word-wrong}
+use Rattle.line.proofs.Reading.{word-right, word-wrong}
 use borrow.Author.Needs.{needs}
 use Rattle.line.proofs.requests.ticks.Statement.{statement}
 use Rattle.line.proofs.requests.ticks.Tie as tie
@@ -43,6 +43,15 @@ wrapped-requires c κs = search needs
 ending-requires : tie.Need-ending-requires
 ending-requires c κs = search needs
 
+sub-unreadable : tie.Need-sub-unreadable
+sub-unreadable c = search needs
+
+part-unreadable-start : tie.Need-part-unreadable-start
+part-unreadable-start c = search needs
+
+part-unreadable-end : tie.Need-part-unreadable-end
+part-unreadable-end c = search needs
+
 unreadable-requires : tie.Need-unreadable-requires
 unreadable-requires c κs = search needs
 
@@ -60,12 +69,12 @@ returns c =
 returns-2 : tie.Need-returns-2
 unfolding ticksOf
 returns-2 c =
-    let a = c .before .before .before .before .before .before .args in
-    let w = c .before .before .before .before .word in
-    let t = c .before .before .is-number in
+    let a = c .before .before .before .before .before .before .before .args in
+    let w = c .before .before .before .before .before .word in
+    let t = c .before .before .before .is-number in
     word-wrong (a .s .now) (a .at) (w .result) (w .ensures) (isNumber 10) Count
     (λ w ws. ending (Happens (Ticks (valueOf 10 w % 65536))) ws)
-    (t .result) (t .ensures) _ (c .before .if1 .left)
+    (t .result) (t .ensures) _ (c .before .before .if1 .left)
     (c .unreadable .ensures)
 
 pub ticks-spec : {M : Type 1} → statement M
@@ -82,6 +91,9 @@ ticks-spec =
     part-wrapped-end
     wrapped-requires
     ending-requires
+    sub-unreadable
+    part-unreadable-start
+    part-unreadable-end
     unreadable-requires
     returns
     returns-2)

@@ -4,7 +4,7 @@ use Rattle.line.specs.declared.Asked.the-variants.{Happens}
 use Rattle.line.specs.declared.Expected.the-variants.{ZeroOrOne}
 use Rattle.line.specs.Text.{ascii}
 use Rattle.line.specs.Request.{txenOf, ending}
-use Rattle.line.proofs.Answers.{chose-one, chose-other, chose-neither}
+use Rattle.line.proofs.Reading.{chose-one, chose-other, chose-neither}
 use borrow.Author.Needs.{needs}
 use Rattle.line.proofs.requests.txen.Statement.{statement}
 use Rattle.line.proofs.requests.txen.Tie as tie
@@ -45,6 +45,15 @@ ending-requires-2 c κs = search needs
 enum-told-3 : tie.Need-enum-told-3
 enum-told-3 c = search needs
 
+sub-unreadable : tie.Need-sub-unreadable
+sub-unreadable c = search needs
+
+part-unreadable-start : tie.Need-part-unreadable-start
+part-unreadable-start c = search needs
+
+part-unreadable-end : tie.Need-part-unreadable-end
+part-unreadable-end c = search needs
+
 unreadable-requires : tie.Need-unreadable-requires
 unreadable-requires c κs = search needs
 
@@ -69,11 +78,11 @@ returns-2 c =
 returns-3 : tie.Need-returns-3
 unfolding txenOf
 returns-3 c =
-    let a = c .before .before .before .before .before .before .before .before .before .args in
-    let w = c .before .before .before .before .before .before .before .word in
-    let k = c .before .before .before .choose in
+    let a = c .before .before .before .before .before .before .before .before .before .before .args in
+    let w = c .before .before .before .before .before .before .before .before .word in
+    let k = c .before .before .before .before .choose in
     chose-neither (a .s .now) (a .at) (w .result) (w .ensures) (ascii "1") (ascii "0") ZeroOrOne (λ t ws. ending (Happens (TxenPin t)) ws)
-    (k .result) (k .ensures) _ (c .before .enum-told3 .given .1) (c .unreadable .ensures)
+    (k .result) (k .ensures) _ (c .before .before .enum-told3 .given .1) (c .unreadable .ensures)
 
 pub txen-spec : {M : Type 1} → statement M
 txen-spec =
@@ -91,6 +100,9 @@ txen-spec =
     enum-told-2
     ending-requires-2
     enum-told-3
+    sub-unreadable
+    part-unreadable-start
+    part-unreadable-end
     unreadable-requires
     returns
     returns-2

@@ -1,0 +1,102 @@
+-- `line::transfers::sized` meets its contract. Assumes nothing.
+use mathlib.Core.Path.{_≡_, sym, ap, _∙_}
+use mathlib.Core.List.{List}
+use Prim.Native.Nat.{ℕ, _≤_, _<_, min}
+use borrow.Author.Tests.{le-leb, lt-leb}
+use borrow.Rule.Slice.PartAt.{part-to-end}
+use lib.ListN.{drop}
+use Rattle.line.specs.Words.{wordsOf}
+use Rattle.line.specs.Numbers.{isNumber, valueOf, most}
+use Rattle.line.specs.Request.{transferOf, sizedOf}
+use borrow.Author.Needs.{needs}
+use native.Mathlib.Omega.{arith}
+use Rattle.line.proofs.transfers.sized.Statement.{statement}
+use Rattle.line.proofs.transfers.sized.Tie as tie
+
+-- what the word has after `spi/`
+abbrev digits : tie.After-is-number → List ℕ
+digits c = drop 4 (c .before .before .before .before .args .word .now)
+
+judged : (c : tie.After-is-number) → c .is-number .result ≡ isNumber 10 (digits c)
+judged c = c .is-number .ensures ∙ rw (part-to-end (c .before .before .before .before .args .word .now) 4)
+
+meant : (c : tie.After-capped) → c .capped .result ≡ min (valueOf 10 (digits (c .before .before .before))) most
+meant c = c .capped .ensures ∙ rw (part-to-end (c .before .before .before .before .before .before .before .args .word .now) 4)
+
+sub-is-number : tie.Need-sub-is-number
+sub-is-number c = search needs
+
+part-is-number-start : tie.Need-part-is-number-start
+part-is-number-start c = search needs
+
+part-is-number-end : tie.Need-part-is-number-end
+part-is-number-end c = search needs
+
+is-number-requires : tie.Need-is-number-requires
+is-number-requires c κs = search needs
+
+sub-capped : tie.Need-sub-capped
+sub-capped c = search needs
+
+part-capped-start : tie.Need-part-capped-start
+part-capped-start c = search needs
+
+part-capped-end : tie.Need-part-capped-end
+part-capped-end c = search needs
+
+capped-requires : tie.Need-capped-requires
+capped-requires c κs = search needs
+
+cast-transfer : tie.Need-cast-transfer
+cast-transfer c = search needs
+
+transfer-requires : tie.Need-transfer-requires
+transfer-requires c κs = search needs
+
+unreadable-requires : tie.Need-unreadable-requires
+unreadable-requires c κs = search needs
+
+unreadable-requires-2 : tie.Need-unreadable-requires-2
+unreadable-requires-2 c κs = search needs
+
+returns : tie.Need-returns
+unfolding sizedOf
+returns c =
+    let b = c .before .before .before .before .before in
+    let a = b .before .before .before .before .args in
+    let v : c .before .before .capped .result ≡ valueOf 10 (digits b) = omega (arith, meant (c .before .before)) in
+    let l : valueOf 10 (digits b) ≤ 16 = omega arith in
+    rw (sym (judged b) ∙ c .before .before .before .before .if1 .taken, le-leb (valueOf 10 (digits b)) 16 l)
+    (c .transfer .ensures ∙ ap (λ (r : ℕ). transferOf r (wordsOf (drop (a .at) (a .s .now)))) v)
+
+returns-2 : tie.Need-returns-2
+unfolding sizedOf
+returns-2 c =
+    let b = c .before .before .before .before .before in
+    let l : 16 < valueOf 10 (digits b) = omega (arith, meant (c .before .before)) in
+    rw (sym (judged b) ∙ c .before .before .before .before .if1 .taken, lt-leb (valueOf 10 (digits b)) 16 l)
+    (c .unreadable .ensures)
+
+returns-3 : tie.Need-returns-3
+unfolding sizedOf
+returns-3 c = rw (sym (judged (c .before .before)) ∙ c .before .if1 .left) (c .unreadable2 .ensures)
+
+pub sized-spec : {M : Type 1} → statement M
+sized-spec =
+    tie.close
+    (tie.spec
+    sub-is-number
+    part-is-number-start
+    part-is-number-end
+    is-number-requires
+    sub-capped
+    part-capped-start
+    part-capped-end
+    capped-requires
+    cast-transfer
+    transfer-requires
+    unreadable-requires
+    unreadable-requires-2
+    returns
+    returns-2
+    returns-3)
