@@ -6,7 +6,7 @@ use lib.Dec.{ltb}
 use lib.ListN.{getD, replicate}
 use Rattle.base.specs.Bit.{isSet}
 use Rattle.base.specs.Pick.{pick}
-use Rattle.base.proofs.Lists.{tabulate}
+use Rattle.base.specs.Tabulate.{tabulate}
 use Rattle.counters.specs.Rules.{zeroed}
 use Rattle.fifo.specs.Queue.{empty, none}
 use Rattle.chip.specs.declared.Device.{Device}

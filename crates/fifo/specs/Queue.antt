@@ -5,7 +5,7 @@ use Prim.Native.Nat.{ℕ, _+_, _-_, _%_}
 use lib.Dec.{eqb, leb, ltb}
 use lib.ListN.{getD, set, replicate}
 use Rattle.base.specs.Pick.{pick}
-use Rattle.base.proofs.Lists.{tabulate}
+use Rattle.base.specs.Tabulate.{tabulate}
 use Rattle.fifo.specs.declared.Fifo.{Fifo}
 use Rattle.fifo.specs.declared.Message.{Message}
 

@@ -11,7 +11,7 @@ use lib.ListN.{length, getD, take, replicate, length-append, length-take, length
 use lib.Seq.{getD-append-seam}
 use Rattle.base.specs.Pick.{pick}
 use Rattle.base.specs.Put.{putOf}
-use Rattle.base.proofs.Lists.{tabulate}
+use Rattle.base.specs.Tabulate.{tabulate}
 use Rattle.fifo.specs.declared.Fifo.{Fifo}
 use Rattle.fifo.specs.declared.Message.{Message}
 use Rattle.fifo.specs.Queue.{empty, absent, waiting, put, next, take as takeOff}
