@@ -17,35 +17,35 @@ abbrev pub row : ℕ → ℕ → ℕ → ℕ → ℕ → ℕ → Row
 row c lo hi o v k = record { command = c; least = lo; most = hi; out = o; verb = v; index = k }
 
 -- "A read, reset or abort is the command byte alone"
-abbrev pub read : ℕ → ℕ → ℕ → Row
-read c o v = row c 0 0 o v 0
+abbrev pub readRow : ℕ → ℕ → ℕ → Row
+readRow c o v = row c 0 0 o v 0
 
-abbrev pub reset : ℕ → ℕ → Row
-reset c v = row c 0 0 0 v 0
+abbrev pub resetRow : ℕ → ℕ → Row
+resetRow c v = row c 0 0 0 v 0
 
 -- "filter and mask reads give 6"
 abbrev pub readOf : ℕ → ℕ → ℕ → Row
 readOf c v k = row c 0 0 6 v k
 
 -- "a register write has 1 byte after it, a filter or mask write 6"
-abbrev pub write : ℕ → ℕ → Row
-write c v = row c 1 1 0 v 0
+abbrev pub writeRow : ℕ → ℕ → Row
+writeRow c v = row c 1 1 0 v 0
 
 abbrev pub writeTo : ℕ → ℕ → ℕ → Row
 writeTo c v k = row c 6 6 0 v k
 
 -- what stands past the last row
 abbrev pub noRow : Row
-noRow = reset 0 0
+noRow = resetRow 0 0
 
 unfoldable pub rows : List Row
 rows =
-    read 0x42 15 readTemporaryWithTime ∷
-    read 0x44 13 readTemporary ∷
-    read 0x46 16 readMessageWithTime ∷
-    read 0x48 14 readMessage ∷
-    read 0x4A 11 readDataWithTime ∷
-    read 0x4C 9 readData ∷
+    readRow 0x42 15 readTemporaryWithTime ∷
+    readRow 0x44 13 readTemporary ∷
+    readRow 0x46 16 readMessageWithTime ∷
+    readRow 0x48 14 readMessage ∷
+    readRow 0x4A 11 readDataWithTime ∷
+    readRow 0x4C 9 readData ∷
     readOf 0xA2 readFilter 0 ∷
     readOf 0xA4 readFilter 1 ∷
     readOf 0xA6 readFilter 2 ∷
@@ -62,37 +62,37 @@ rows =
     readOf 0xBE readMask 5 ∷
     readOf 0xC2 readMask 6 ∷
     readOf 0xC4 readMask 7 ∷
-    read 0xD2 1 readCtrl0 ∷
-    read 0xD4 1 readCtrl1 ∷
-    read 0xD6 1 readBtr0 ∷
-    read 0xD8 1 readBtr1 ∷
-    read 0xDA 1 readMesstat ∷
-    read 0xDC 1 readErr ∷
-    read 0xDE 1 readIntf ∷
-    read 0xE2 1 readStatf ∷
-    read 0xE4 1 readInte ∷
-    read 0xE6 1 readStatfe ∷
-    read 0xE8 1 readGpine ∷
-    read 0xEA 1 readRec ∷
-    read 0xEC 1 readTec ∷
-    read 0xEE 3 readHistory ∷
-    read 0xF8 1 readRecessiveCount ∷
-    read 0xFA 2 readTime ∷
-    reset 0x52 abortTransmission ∷
-    reset 0x54 clearTransmit ∷
-    reset 0x56 masterReset ∷
-    reset 0x58 resetTime ∷
-    reset 0x5A clearReceive ∷
+    readRow 0xD2 1 readCtrl0 ∷
+    readRow 0xD4 1 readCtrl1 ∷
+    readRow 0xD6 1 readBtr0 ∷
+    readRow 0xD8 1 readBtr1 ∷
+    readRow 0xDA 1 readMesstat ∷
+    readRow 0xDC 1 readErr ∷
+    readRow 0xDE 1 readIntf ∷
+    readRow 0xE2 1 readStatf ∷
+    readRow 0xE4 1 readInte ∷
+    readRow 0xE6 1 readStatfe ∷
+    readRow 0xE8 1 readGpine ∷
+    readRow 0xEA 1 readRec ∷
+    readRow 0xEC 1 readTec ∷
+    readRow 0xEE 3 readHistory ∷
+    readRow 0xF8 1 readRecessiveCount ∷
+    readRow 0xFA 2 readTime ∷
+    resetRow 0x52 abortTransmission ∷
+    resetRow 0x54 clearTransmit ∷
+    resetRow 0x56 masterReset ∷
+    resetRow 0x58 resetTime ∷
+    resetRow 0x5A clearReceive ∷
     row 0x12 4 14 0 writeMessage 0 ∷
-    write 0x14 writeCtrl0 ∷
-    write 0x16 writeCtrl1 ∷
-    write 0x18 writeBtr0 ∷
-    write 0x1A writeBtr1 ∷
-    write 0x1C writeInte ∷
-    write 0x1E writeStatfe ∷
-    write 0x22 writeGpine ∷
-    write 0x24 writeRec ∷
-    write 0x26 writeTec ∷
+    writeRow 0x14 writeCtrl0 ∷
+    writeRow 0x16 writeCtrl1 ∷
+    writeRow 0x18 writeBtr0 ∷
+    writeRow 0x1A writeBtr1 ∷
+    writeRow 0x1C writeInte ∷
+    writeRow 0x1E writeStatfe ∷
+    writeRow 0x22 writeGpine ∷
+    writeRow 0x24 writeRec ∷
+    writeRow 0x26 writeTec ∷
     writeTo 0x62 writeFilter 0 ∷
     writeTo 0x64 writeFilter 1 ∷
     writeTo 0x66 writeFilter 2 ∷

@@ -12,7 +12,7 @@ use Rattle.events.specs.declared.ErrorKind.the-variants.{Bit}
 use Rattle.events.specs.declared.Event.the-variants.{ReceiveError, BusQuiet, Ticks}
 use Rattle.commands.specs.declared.Found.the-variants.{At}
 use Rattle.commands.specs.declared.Row.{Row}
-use Rattle.commands.specs.Table.{rows, lookup, read as readRow}
+use Rattle.commands.specs.Table.{rows, lookup, readRow}
 use Rattle.commands.specs.Verbs.{readRec, readIntf}
 use Rattle.refused.specs.Refused.{lengthFits}
 use Rattle.promise.specs.Outbox.{Running, none, first, orphan, outbox, Runs, Sent}

@@ -15,7 +15,7 @@ use Rattle.chip.specs.declared.Device.{Device}
 use Rattle.chip.specs.Parts.{with-regs, with-intf}
 use Rattle.chip.specs.Proper.{registersInRange, sendingInRange, actingInRange, proper}
 use Rattle.chip.specs.State.{fresh, normal, modeOf}
-use Rattle.commands.specs.Table.{rows, read}
+use Rattle.commands.specs.Table.{rows, readRow}
 use Rattle.commands.specs.Verbs.{readIntf, readStatf, readMessage}
 use Rattle.drawn.specs.Drawn.{share, statf, int}
 use Rattle.refused.specs.declared.Verdict.{Verdict}
@@ -61,14 +61,14 @@ module _ (d : Device) (in-range : proper d ≡ true) (acts : d .acting ≡ norma
   pub flags-read : asked d 0xDE 1 ≡ with-regs d (with-intf (d .regs) 0)
   unfolding after transfer judged rowJudged refusal lengthFits outsideSetUp setsUp findsFull readsMessage findsNone rows does registerChanged registersAfter
   flags-read =
-      let accepted : judged d (0xDE ∷ []) 1 ≡ Accepted (read 0xDE 1 readIntf) = rw (in-range, acts) in
+      let accepted : judged d (0xDE ∷ []) 1 ≡ Accepted (readRow 0xDE 1 readIntf) = rw (in-range, acts) in
       ap (after (0xDE ∷ [])) accepted
 
   -- reading STATF changes nothing
   pub status-read : asked d 0xE2 1 ≡ d
   unfolding after transfer judged rowJudged refusal lengthFits outsideSetUp setsUp findsFull readsMessage findsNone rows does registerChanged registersAfter
   status-read =
-      let accepted : judged d (0xE2 ∷ []) 1 ≡ Accepted (read 0xE2 1 readStatf) = rw (in-range, acts) in
+      let accepted : judged d (0xE2 ∷ []) 1 ≡ Accepted (readRow 0xE2 1 readStatf) = rw (in-range, acts) in
       ap (after (0xE2 ∷ [])) accepted
 
   pub status-shows : reply d 0xE2 1 ≡ statf d ∷ []
@@ -81,7 +81,7 @@ module _ (d : Device) (in-range : proper d ≡ true) (acts : d .acting ≡ norma
   pub message-read : eqb (d .rx .count) 0 ≡ false → asked d 0x48 14 ≡ messageTaken d
   unfolding after transfer judged rowJudged refusal lengthFits outsideSetUp setsUp findsFull readsMessage findsNone rows does
   message-read some =
-      let accepted : judged d (0x48 ∷ []) 14 ≡ Accepted (read 0x48 14 readMessage) = rw (in-range, acts, some) in
+      let accepted : judged d (0x48 ∷ []) 14 ≡ Accepted (readRow 0x48 14 readMessage) = rw (in-range, acts, some) in
       ap (after (0x48 ∷ [])) accepted
 
 -- ---- the parts that the terminal counts on, after each step
