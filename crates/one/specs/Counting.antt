@@ -30,11 +30,11 @@ module _ (M : Type 1) where
   pub counters·eleven-recessive : OneResult M counters.eleven_recessive.ended counters.eleven_recessive.spec
   counters·eleven-recessive = result counters.eleven_recessive.clauses (λ _. Rules.elevenRecessive) refl
 
-  pub counters·write-rec : OneResult M counters.write_rec.ended counters.write_rec.spec
-  counters·write-rec = result counters.write_rec.clauses (λ _. Rules.writeRec) refl
+  pub counters·test-rec : OneResult M counters.test_rec.ended counters.test_rec.spec
+  counters·test-rec = result counters.test_rec.clauses (λ _. Rules.testRec) refl
 
-  pub counters·write-tec : OneResult M counters.write_tec.ended counters.write_tec.spec
-  counters·write-tec = result counters.write_tec.clauses (λ _. Rules.writeTec) refl
+  pub counters·test-tec : OneResult M counters.test_tec.ended counters.test_tec.spec
+  counters·test-tec = result counters.test_tec.clauses (λ _. Rules.testTec) refl
 
   pub counters·lent·receive-error : OneResult M counters.lent.receive_error.ended counters.lent.receive_error.spec
   counters·lent·receive-error = lent Counters.the-type Rules.receiveError

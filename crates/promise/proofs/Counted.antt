@@ -6,7 +6,7 @@ use Prim.Native.Nat.{ℕ}
 use lib.Dec.{eqb}
 use Rattle.base.specs.Bit.{byte}
 use Rattle.base.specs.Pick.{pick}
-use Rattle.counters.specs.Rules.{zeroed, goodFrame, transmitError, writeRec, writeTec}
+use Rattle.counters.specs.Rules.{zeroed, goodFrame, transmitError, testRec, testTec}
 use Rattle.frame.specs.declared.Header.{Header}
 use Rattle.chip.specs.declared.Device.{Device}
 use Rattle.chip.specs.State.{fresh, normal, monitor, bor}
@@ -21,7 +21,7 @@ use Rattle.events.specs.declared.Event.the-variants.{BusQuiet, BusActivity, Tic
 use Rattle.judged.specs.declared.Answer.the-variants.{Done}
 use Rattle.changed.specs.Changed.{after, reachesBuffer, frameAfter, heard, countedFrame, echoed, errorReceived, countedReceiveError, dominantMet, errorSent}
 use Rattle.changed.specs.Changed.{countedTransmitError, recessiveMet, ticked, pinSet}
-use Rattle.commands.specs.Verbs.{writeRec as writesRec, writeTec as writesTec}
+use Rattle.commands.specs.Verbs.{writeRec, writeTec}
 use Rattle.promise.specs.Promises.{CountersAreTheRulesSum}
 use Rattle.promise.specs.Sequence.{Input, spi, wire, answered, Step, shipped as step}
 use Rattle.promise.specs.Sums.{counted, countedEvent}
@@ -51,14 +51,14 @@ module _ (d : Device) where
   on-spi bytes buffer =
       by-command
       (λ ok asked (w : Watched). w .counters ≡ pick ok
-      (pick (asked writesRec) (writeRec (d .counters) (byte bytes 2))
-      (pick (asked writesTec) (writeTec (d .counters) (byte bytes 2))
+      (pick (asked writeRec) (testRec (d .counters) (byte bytes 2))
+      (pick (asked writeTec) (testTec (d .counters) (byte bytes 2))
       (d .counters)))
       (d .counters))
       d bytes buffer
       refl
       (refl and refl and refl and refl and refl and refl and refl and tt)
-      (λ v none. rw (none writesRec refl, none writesTec refl))
+      (λ v none. rw (none writeRec refl, none writeTec refl))
 
   after-counters : (e : Event) → after d e .counters ≡ countedEvent (d .acting) (bor d) (d .counters) e (answered Done)
   unfolding after errorReceived countedReceiveError busError raised dominantMet errorSent countedTransmitError stopped begun

@@ -232,7 +232,7 @@ unfolding Transfer.transfer Transfer.replyAfter Refused.lengthFits Refused.setsU
     Changed.countedFrame Changed.heard Changed.reachesBuffer Changed.frameAfter Changed.countedReceiveError Changed.errorReceived Changed.dominantMet
     Changed.countedTransmitError Changed.errorSent Changed.echoed Changed.recessiveMet Changed.ticked Changed.pinSet Changed.arrival Changed.after
     Event.numberOf Event.reasonOf Event.valuesOf Event.answer Event.event Rules.receiveError Rules.dominantBit Rules.goodFrame Rules.transmitError
-    Rules.completed Rules.elevenRecessive Rules.writeRec Rules.writeTec Transmit.sends Transmit.canBegin Transmit.withoutTx1m Transmit.ctrl1Begun
+    Rules.completed Rules.elevenRecessive Rules.testRec Rules.testTec Transmit.sends Transmit.canBegin Transmit.withoutTx1m Transmit.ctrl1Begun
     Transmit.begun Transmit.stopped Transmit.aborted Transmit.leftAlone Transmit.cleared Transmit.stamped Transmit.fifoAfter
     Transmit.countedCompletion Transmit.sent Shown.cut Shown.register Shown.shows
 differ = refl

@@ -9,7 +9,7 @@ use lib.Dec.{eqb}
 use Rattle.base.specs.Bit.{byte, isSet}
 use Rattle.base.specs.Pick.{pick}
 use Rattle.counters.specs.declared.Counters.{Counters}
-use Rattle.counters.specs.Rules.{zeroed, receiveError, dominantBit, goodFrame, transmitError, completed, elevenRecessive, writeRec, writeTec}
+use Rattle.counters.specs.Rules.{zeroed, receiveError, dominantBit, goodFrame, transmitError, completed, elevenRecessive, testRec, testTec}
 use Rattle.chip.specs.State.{fresh, normal, monitor, bor}
 use Rattle.events.specs.declared.ErrorKind.{ErrorKind}
 use Rattle.events.specs.declared.Event.{Event}
@@ -17,7 +17,7 @@ use Rattle.events.specs.declared.Event.the-variants.{GoodFrame, ReceiveError, D
 use Rattle.events.specs.declared.Event.the-variants.{BusQuiet, BusActivity, Ticks, TxenPin, MasterReset, Unknown}
 use Rattle.judged.specs.declared.Answer.the-variants.{Refused, Done, Arrived}
 use Rattle.changed.specs.Changed.{errBit, reachesBuffer}
-use Rattle.commands.specs.Verbs.{readErr, masterReset, resetTime, writeCtrl0, writeRec as writesRec, writeTec as writesTec}
+use Rattle.commands.specs.Verbs.{readErr, masterReset, resetTime, writeCtrl0, writeRec, writeTec}
 use Rattle.promise.specs.Numbers.{command}
 use Rattle.promise.specs.Sequence.{Input, spi, wire, Given, replied, answered, Machine, number, run, along}
 
@@ -64,8 +64,8 @@ countedEvent acting recovers c Unknown given = c
 -- 0x24 and 0x26
 abbrev pub countedWrite : Counters → List ℕ → Counters
 countedWrite c bytes =
-    pick (asks writesRec bytes) (writeRec c (byte bytes 2))
-    (pick (asks writesTec bytes) (writeTec c (byte bytes 2))
+    pick (asks writeRec bytes) (testRec c (byte bytes 2))
+    (pick (asks writeTec bytes) (testTec c (byte bytes 2))
     c)
 
 -- in the acting mode, and with BOR set or not
