@@ -5,7 +5,7 @@ use lib.Bits.{bitAnd}
 use lib.Dec.{eqb, ltb}
 use Rattle.base.specs.Bit.{isSet}
 use Rattle.base.specs.Pick.{pick, flag}
-use Rattle.levels.specs.Levels.{errw, errp, errBits}
+use Rattle.levels.specs.Levels.{errw, errp, levelBits}
 use Rattle.chip.specs.declared.Device.{Device}
 use Rattle.chip.specs.State.{enabled, idle}
 
@@ -18,7 +18,7 @@ statf d =
 
 -- ERR: BUSOFF, TXERRP and RXERRP from the counters, then the five kinds of error met since the last read
 unfoldable pub err : Device → ℕ
-err d = errBits (d .counters) + d .regs .errs % 32
+err d = levelBits (d .counters) + d .regs .errs % 32
 
 -- TSTAT: 11 while one runs, "00: Transmission not enabled", "01: … FIFO is empty", "10: Waiting to transmit or re-transmit"
 unfoldable pub tstat : Device → ℕ

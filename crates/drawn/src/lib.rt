@@ -29,7 +29,7 @@ pub fn err(d: Device) -> u8
     ensures { λ r. ⌜ r ≡ err d ⌝ }
 {
     let c = d.counters;
-    levels::err_bits(c) + d.regs.errs % 32
+    levels::level_bits(c) + d.regs.errs % 32
 }
 
 fn tstat(d: Device) -> u8

@@ -55,8 +55,8 @@ module _ (M : Type 1) where
   pub levels·errp : OneResult M levels.errp.ended levels.errp.spec
   levels·errp = result levels.errp.clauses (λ _. Levels.errp) refl
 
-  pub levels·err-bits : OneResult M levels.err_bits.ended levels.err_bits.spec
-  levels·err-bits = result levels.err_bits.clauses (λ _. Levels.errBits) refl
+  pub levels·level-bits : OneResult M levels.level_bits.ended levels.level_bits.spec
+  levels·level-bits = result levels.level_bits.clauses (λ _. Levels.levelBits) refl
 
   pub levels·tec-shown : OneResult M levels.tec_shown.ended levels.tec_shown.spec
   levels·tec-shown = result levels.tec_shown.clauses (λ _. Levels.tecShown) refl

@@ -9,7 +9,7 @@ use Rattle.base.specs.Bit.{byte}
 use Rattle.base.specs.Pick.{among}
 use Rattle.base.specs.Put.{putOf}
 use Rattle.counters.specs.declared.Counters.{Counters}
-use Rattle.levels.specs.Levels.{errBits as levelBits, tecShown, groupsShown}
+use Rattle.levels.specs.Levels.{levelBits, tecShown, groupsShown}
 use Rattle.chip.specs.State.{fresh}
 use Rattle.commands.specs.declared.Found.the-variants.{At}
 use Rattle.commands.specs.declared.Row.{Row}
