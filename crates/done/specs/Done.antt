@@ -8,7 +8,7 @@ use Rattle.base.specs.Bit.{byte}
 use Rattle.base.specs.Pick.{pick, among}
 use Rattle.counters.specs.Rules.{testRec, testTec}
 use Rattle.fifo.specs.Queue.{empty, put, take}
-use Rattle.sent.specs.Sent.{readMessage as messageRead, stored}
+use Rattle.sent.specs.Sent.{messageOf, stored}
 use Rattle.chip.specs.declared.Device.{Device}
 use Rattle.chip.specs.declared.Pattern.{Pattern}
 use Rattle.chip.specs.declared.Registers.{Registers}
@@ -67,7 +67,7 @@ timeReset d = with-time d 0
 unfoldable pub messageWritten : Device → List ℕ → Device
 messageWritten d bytes =
     pick (eqb (length bytes) 0) d
-    (with-tx d (put (d .tx) (record { bytes = stored (messageRead (drop 1 bytes) .message) })))
+    (with-tx d (put (d .tx) (record { bytes = stored (messageOf (drop 1 bytes) .message) })))
 
 unfoldable pub filterWritten : Device → ℕ → Pattern → Device
 filterWritten d k p = with-filters d (set (d .filters) (k % 8) p)

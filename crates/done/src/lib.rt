@@ -48,7 +48,7 @@ fn message_written(d: Device, bytes: &[u8]) -> Device
     if bytes.len() == 0 {
         return d;
     }
-    let reading = sent::read_message(&bytes[1..]);
+    let reading = sent::message_of(&bytes[1..]);
     let message = reading.message;
     let bytes = sent::stored(message);
     let tx = d.tx;

@@ -78,8 +78,8 @@ module _ (M : Type 1) where
   pub sent·right-length : OneResult M sent.right_length.ended sent.right_length.spec
   sent·right-length = result sent.right_length.clauses (λ _ s. Sent.rightLength (now s)) refl
 
-  pub sent·read-message : OneResult M sent.read_message.ended sent.read_message.spec
-  sent·read-message = result sent.read_message.clauses (λ _ s. Sent.readMessage (now s)) refl
+  pub sent·message-of : OneResult M sent.message_of.ended sent.message_of.spec
+  sent·message-of = result sent.message_of.clauses (λ _ s. Sent.messageOf (now s)) refl
 
   pub sent·stored : OneResult M sent.stored.ended sent.stored.spec
   sent·stored = result sent.stored.clauses (λ _. Sent.stored) refl

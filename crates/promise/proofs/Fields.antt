@@ -19,7 +19,7 @@ use Rattle.frame.specs.Received.{received, idIn, headerIn, dataIn}
 use Rattle.frame.proofs.ReadBack.{header-back, data-back, time-back, filter-back}
 use Rattle.filter.specs.Lowest.{filhit}
 use Rattle.sent.specs.declared.Message.{Message as SentMessage}
-use Rattle.sent.specs.Sent.{readMessage, stored}
+use Rattle.sent.specs.Sent.{messageOf, stored}
 use Rattle.chip.specs.declared.Device.{Device}
 use Rattle.chip.specs.State.{fresh, loopback}
 use Rattle.receive.specs.Receive.{hit, message}
@@ -131,7 +131,7 @@ module _ (o : Outbox) (h : BoxHeaded o) where
   commanded-headed : (bytes : List ℕ) (before after : ℕ) → BoxHeaded (commanded o bytes before after)
   commanded-headed bytes before after =
       by-deed (resetAsked bytes) (asks clearTransmit bytes) (asks abortTransmission bytes) (asks writeMessage bytes) (eqb before after)
-      (brought bytes) (stored-headed (readMessage (drop 1 bytes) .message))
+      (brought bytes) (stored-headed (messageOf (drop 1 bytes) .message))
 
   happened-headed : (e : Event) → BoxHeaded (happened o e)
   happened-headed Begun = (h .0, first-headed (o .queue) (h .0))

@@ -222,7 +222,7 @@ differ : map (λ s. alike (s .0) (s .1)) sides ≡ replicate 24 false
 unfolding Transfer.transfer Transfer.replyAfter Refused.lengthFits Refused.setsUp Refused.outsideSetUp Refused.findsFull Refused.readsMessage
     Refused.findsNone Refused.refusal Refused.rowJudged Refused.judged Proper.registersInRange Proper.sendingInRange Proper.actingInRange
     Proper.proper State.modeOf State.fresh State.enabled State.bank Queue.empty Queue.put Queue.take Queue.next Queue.inRange Table.rows
-    Sent.headerSent Sent.rightLength Sent.readMessage Sent.stored Done.pattern Done.registersAfter Done.registerChanged Done.messageTaken
+    Sent.headerSent Sent.rightLength Sent.messageOf Sent.stored Done.pattern Done.registersAfter Done.registerChanged Done.messageTaken
     Done.entryTaken Done.receiveCleared Done.timeReset Done.messageWritten Done.filterWritten Done.maskWritten Done.recWritten Done.tecWritten
     Done.does Modes.changed Modes.writeCtrl0 Modes.canSleep Modes.busQuiet Modes.busActivity Flags.raised Flags.busError Reset.reset Receive.hit
     Receive.room Receive.passed Receive.answered Receive.reason Receive.isQueued Receive.queuedFlag Receive.filterFlag Receive.queueAfter

@@ -8,7 +8,7 @@ use lib.ListN.{getD, drop}
 use Rattle.base.specs.Pick.{pick}
 use Rattle.fifo.specs.declared.Message.{Message}
 use Rattle.fifo.specs.Queue.{absent, waiting}
-use Rattle.sent.specs.Sent.{readMessage, stored}
+use Rattle.sent.specs.Sent.{messageOf, stored}
 use Rattle.chip.specs.declared.Device.{Device}
 use Rattle.chip.specs.State.{fresh, idle, first-in-fifo, alone}
 use Rattle.events.specs.declared.Event.{Event}
@@ -43,7 +43,7 @@ orphaned (orphan m) = orphan m
 
 -- the message of 0x12, as it is kept
 abbrev pub brought : List ℕ → Message
-brought bytes = record { bytes = stored (readMessage (drop 1 bytes) .message) }
+brought bytes = record { bytes = stored (messageOf (drop 1 bytes) .message) }
 
 -- a transfer that was done; "If it names a mode other than the acting one, it acts at once and ends a running transmission"
 abbrev pub commanded : Outbox → List ℕ → ℕ → ℕ → Outbox
