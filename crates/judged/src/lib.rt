@@ -104,7 +104,7 @@ pub fn reason(d: Device, h: Header, acknowledged: bool, payload: [u8; 8]) -> Arr
     let deaf = takes_no_frames(d.acting);
     let off = d.counters.busoff;
     let alone = unacknowledged(d.acting, acknowledged);
-    let what = receive::reason(d, h, payload);
+    let what = receive::filters_and_room(d, h, payload);
     if deaf {
         return Arrival::A1;
     }
@@ -127,7 +127,7 @@ fn echo(d: Device) -> Answer
         let bytes = m.bytes;
         let h = frame::header_in(bytes);
         let payload = frame::data_in(bytes);
-        Answer::Arrived(receive::reason(d, h, payload))
+        Answer::Arrived(receive::filters_and_room(d, h, payload))
     } else {
         Answer::Done
     }

@@ -16,7 +16,7 @@ use Rattle.flags.specs.Flags.{raised}
 use Rattle.modes.specs.Modes.{changed, canSleep, busQuiet, busActivity}
 use Rattle.receive.specs.declared.Arrival.{Arrival}
 use Rattle.receive.specs.declared.Arrival.the-variants.{Queued, A5}
-use Rattle.receive.specs.Receive.{hit, room, passed, answered as filtered, reason as filtersAndRoom}
+use Rattle.receive.specs.Receive.{hit, room, passed, answered as filtered, filtersAndRoom}
 use Rattle.events.specs.declared.Event.{Event}
 use Rattle.events.specs.declared.Event.the-variants.{GoodFrame, ReceiveError, DominantBit, TransmitError, Begun, Completed, ArbitrationLost, ElevenRecessive}
 use Rattle.events.specs.declared.Event.the-variants.{BusQuiet, BusActivity, Ticks, TxenPin, MasterReset, Unknown}

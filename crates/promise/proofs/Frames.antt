@@ -18,7 +18,7 @@ use Rattle.transmit.specs.Transmit.{begun, stopped, sent}
 use Rattle.modes.specs.Modes.{changed, canSleep, busQuiet, busActivity}
 use Rattle.receive.specs.declared.Arrival.{Arrival}
 use Rattle.receive.specs.declared.Arrival.the-variants.{Queued, A1, A2, A3, A4, A5}
-use Rattle.receive.specs.Receive.{hit, room, passed, answered as judgedBy, reason as filtersAndRoom, message, isQueued, queueAfter, arrived}
+use Rattle.receive.specs.Receive.{hit, room, passed, answered as judgedBy, filtersAndRoom, message, isQueued, queueAfter, arrived}
 use Rattle.events.specs.declared.Event.{Event}
 use Rattle.events.specs.declared.Event.the-variants.{GoodFrame, ReceiveError, DominantBit, TransmitError, Begun, Completed, ArbitrationLost, ElevenRecessive}
 use Rattle.events.specs.declared.Event.the-variants.{BusQuiet, BusActivity, Ticks, TxenPin, MasterReset, Unknown}

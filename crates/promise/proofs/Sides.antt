@@ -225,7 +225,7 @@ unfolding Transfer.transfer Transfer.replyAfter Refused.lengthFits Refused.setsU
     Sent.headerSent Sent.rightLength Sent.messageOf Sent.stored Done.pattern Done.registersAfter Done.registerChanged Done.messageTaken
     Done.entryTaken Done.receiveCleared Done.timeReset Done.messageWritten Done.filterWritten Done.maskWritten Done.recWritten Done.tecWritten
     Done.does Modes.changed Modes.writeCtrl0 Modes.canSleep Modes.busQuiet Modes.busActivity Flags.raised Flags.busError Reset.reset Receive.hit
-    Receive.room Receive.passed Receive.answered Receive.reason Receive.isQueued Receive.queuedFlag Receive.filterFlag Receive.queueAfter
+    Receive.room Receive.passed Receive.answered Receive.filtersAndRoom Receive.isQueued Receive.queuedFlag Receive.filterFlag Receive.queueAfter
     Receive.arrived Lowest.lowest Lowest.filhit Match.matches Length.dataLength Length.dataBytes Length.possible Length.dataFits Length.dataOf
     Received.received Received.headerIn Tables.idBits Tables.idToSend Tables.readId Tables.compared Judged.quietMode Judged.noErrors Judged.runs
     Judged.impossibleFrame Judged.impossible Judged.takesNoFrames Judged.unacknowledged Judged.reason Judged.echo Judged.said Changed.errBit

@@ -28,7 +28,7 @@ use Rattle.flags.specs.Flags.{raised}
 use Rattle.transmit.specs.Transmit.{stopped}
 use Rattle.modes.specs.Modes.{changed, writeCtrl0}
 use Rattle.receive.specs.declared.Arrival.the-variants.{Queued}
-use Rattle.receive.specs.Receive.{hit, room, answered, reason as filtersAndRoom, isQueued, queuedFlag, filterFlag, queueAfter, arrived}
+use Rattle.receive.specs.Receive.{hit, room, answered, filtersAndRoom, isQueued, queuedFlag, filterFlag, queueAfter, arrived}
 use Rattle.events.specs.declared.Event.the-variants.{GoodFrame}
 use Rattle.judged.specs.declared.Answer.{Answer}
 use Rattle.judged.specs.declared.Answer.the-variants.{Arrived}
