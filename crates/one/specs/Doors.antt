@@ -37,7 +37,7 @@ module _ (M : Type 1) where
 
   -- ---- refused
   pub refused·judge : OneResult M refused.judge.ended refused.judge.spec
-  refused·judge = result refused.judge.clauses (λ _ d bytes room. Refused.judged d (now bytes) room) refl
+  refused·judge = result refused.judge.clauses (λ _ d bytes room. Refused.verdict d (now bytes) room) refl
 
   -- ---- shown
   pub shown·shows : OneResult M shown.shows.ended shown.shows.spec

@@ -26,7 +26,7 @@ use Rattle.commands.specs.declared.Row.{Row}
 use Rattle.commands.specs.Table.{rows, lookup}
 use Rattle.refused.specs.declared.Verdict.{Verdict}
 use Rattle.refused.specs.declared.Verdict.the-variants.{Refused as RefusedTransfer, Accepted}
-use Rattle.refused.specs.Refused.{refusal, rowJudged, judged, lengthFits, outsideSetUp, findsFull, findsNone}
+use Rattle.refused.specs.Refused.{refusal, rowJudged, verdict, lengthFits, outsideSetUp, findsFull, findsNone}
 use Rattle.host.specs.Transfer.{transfer, outcome as transferred}
 use Rattle.promise.specs.Promises.{EveryInputIsAnswered, TheFirstNumberIsGiven, EachNumberExactly, ARefusalChangesNothing}
 use Rattle.promise.specs.Sequence.{spi, wire, shipped as step, number}
@@ -70,9 +70,9 @@ module _ (d : Device) (bytes buffer : List ℕ) where
   judged-number true false (At r) = number-kept (eqb (refusal d r bytes (length buffer)) 0) (refusal d r bytes (length buffer)) r refl
 
   transfer-first : numberGiven step d (spi bytes buffer) ≡ lowest (row d (spi bytes buffer))
-  unfolding transfer judged tabled
+  unfolding transfer verdict tabled
   transfer-first =
-      number-of-verdict d bytes (judged d bytes (length buffer))
+      number-of-verdict d bytes (verdict d bytes (length buffer))
       ∙ judged-number (proper d) (eqb (length bytes) 0) (lookup rows (byte bytes 1))
 
 -- ---- events

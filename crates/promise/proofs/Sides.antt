@@ -220,7 +220,7 @@ sides =
 
 differ : map (λ s. alike (s .0) (s .1)) sides ≡ replicate 24 false
 unfolding Transfer.transfer Transfer.replyAfter Refused.lengthFits Refused.setsUp Refused.outsideSetUp Refused.findsFull Refused.readsMessage
-    Refused.findsNone Refused.refusal Refused.rowJudged Refused.judged Proper.registersInRange Proper.sendingInRange Proper.actingInRange
+    Refused.findsNone Refused.refusal Refused.rowJudged Refused.verdict Proper.registersInRange Proper.sendingInRange Proper.actingInRange
     Proper.proper State.modeOf State.fresh State.enabled State.bank Queue.empty Queue.put Queue.take Queue.next Queue.inRange Table.rows
     Sent.headerSent Sent.rightLength Sent.messageOf Sent.stored Done.pattern Done.registersAfter Done.registerChanged Done.messageTaken
     Done.entryTaken Done.receiveCleared Done.timeReset Done.messageWritten Done.filterWritten Done.maskWritten Done.recWritten Done.tecWritten

@@ -65,8 +65,8 @@ rowJudged d (At r) bytes room =
     (Refused (refusal d r bytes room))
 
 -- 1: "the state handed in has a count, place or field outside its range"; an empty transfer has no command byte to judge, so it is 3
-unfoldable pub judged : Device → List ℕ → ℕ → Verdict
-judged d bytes room =
+unfoldable pub verdict : Device → List ℕ → ℕ → Verdict
+verdict d bytes room =
     pick (proper d)
     (pick (eqb (length bytes) 0) (Refused 3) (rowJudged d (lookup rows (byte bytes 1)) bytes room))
     (Refused 1)

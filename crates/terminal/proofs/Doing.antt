@@ -20,7 +20,7 @@ use Rattle.commands.specs.Verbs.{readIntf, readStatf, readMessage}
 use Rattle.drawn.specs.Drawn.{share, statf, int}
 use Rattle.refused.specs.declared.Verdict.{Verdict}
 use Rattle.refused.specs.declared.Verdict.the-variants.{Accepted}
-use Rattle.refused.specs.Refused.{lengthFits, setsUp, outsideSetUp, readsMessage, findsFull, findsNone, refusal, rowJudged, judged}
+use Rattle.refused.specs.Refused.{lengthFits, setsUp, outsideSetUp, readsMessage, findsFull, findsNone, refusal, rowJudged, verdict}
 use Rattle.fifo.specs.Queue.{empty, inRange, put, take as takeOff}
 use Rattle.frame.specs.Length.{dataLength, dataBytes, possible, dataFits}
 use Rattle.counters.specs.Rules.{goodFrame}
@@ -59,29 +59,29 @@ module _ (d : Device) (in-range : proper d ≡ true) (acts : d .acting ≡ norma
 
   -- reading INTF clears it
   pub flags-read : asked d 0xDE 1 ≡ with-regs d (with-intf (d .regs) 0)
-  unfolding after transfer judged rowJudged refusal lengthFits outsideSetUp setsUp findsFull readsMessage findsNone rows does registerChanged registersAfter
+  unfolding after transfer verdict rowJudged refusal lengthFits outsideSetUp setsUp findsFull readsMessage findsNone rows does registerChanged registersAfter
   flags-read =
-      let accepted : judged d (0xDE ∷ []) 1 ≡ Accepted (readRow 0xDE 1 readIntf) = rw (in-range, acts) in
+      let accepted : verdict d (0xDE ∷ []) 1 ≡ Accepted (readRow 0xDE 1 readIntf) = rw (in-range, acts) in
       ap (after (0xDE ∷ [])) accepted
 
   -- reading STATF changes nothing
   pub status-read : asked d 0xE2 1 ≡ d
-  unfolding after transfer judged rowJudged refusal lengthFits outsideSetUp setsUp findsFull readsMessage findsNone rows does registerChanged registersAfter
+  unfolding after transfer verdict rowJudged refusal lengthFits outsideSetUp setsUp findsFull readsMessage findsNone rows does registerChanged registersAfter
   status-read =
-      let accepted : judged d (0xE2 ∷ []) 1 ≡ Accepted (readRow 0xE2 1 readStatf) = rw (in-range, acts) in
+      let accepted : verdict d (0xE2 ∷ []) 1 ≡ Accepted (readRow 0xE2 1 readStatf) = rw (in-range, acts) in
       ap (after (0xE2 ∷ [])) accepted
 
   pub status-shows : reply d 0xE2 1 ≡ statf d ∷ []
-  unfolding replyAfter judged rowJudged refusal lengthFits outsideSetUp setsUp findsFull readsMessage findsNone rows shows register
+  unfolding replyAfter verdict rowJudged refusal lengthFits outsideSetUp setsUp findsFull readsMessage findsNone rows shows register
   status-shows = rw (in-range, acts)
 
   pub status-is : statusOf d ≡ record { device = d; waits = not (eqb (d .rx .count) 0) }
   status-is = rw (status-shows, status-read, empty-shown d)
 
   pub message-read : eqb (d .rx .count) 0 ≡ false → asked d 0x48 14 ≡ messageTaken d
-  unfolding after transfer judged rowJudged refusal lengthFits outsideSetUp setsUp findsFull readsMessage findsNone rows does
+  unfolding after transfer verdict rowJudged refusal lengthFits outsideSetUp setsUp findsFull readsMessage findsNone rows does
   message-read some =
-      let accepted : judged d (0x48 ∷ []) 14 ≡ Accepted (readRow 0x48 14 readMessage) = rw (in-range, acts, some) in
+      let accepted : verdict d (0x48 ∷ []) 14 ≡ Accepted (readRow 0x48 14 readMessage) = rw (in-range, acts, some) in
       ap (after (0x48 ∷ [])) accepted
 
 -- ---- the parts that the terminal counts on, after each step
@@ -150,16 +150,16 @@ int-is d listens wakes = rw (listens .enables, wakes) (by-count (eqb (d .rx .cou
 -- ---- the terminal is switched on: three transfers, computed
 
 pub on-listens : Listens switchedOn
-unfolding transfer judged rowJudged refusal lengthFits outsideSetUp setsUp findsFull readsMessage findsNone rows does registerChanged registersAfter
+unfolding transfer verdict rowJudged refusal lengthFits outsideSetUp setsUp findsFull readsMessage findsNone rows does registerChanged registersAfter
     fresh modeOf proper registersInRange sendingInRange actingInRange empty inRange writeCtrl0 changed stopped raised
 on-listens = record { acts = refl; unfiltered = refl; on = refl; enables = refl }
 
 pub on-wakes : Wakes switchedOn
-unfolding transfer judged rowJudged refusal lengthFits outsideSetUp setsUp findsFull readsMessage findsNone rows does registerChanged registersAfter
+unfolding transfer verdict rowJudged refusal lengthFits outsideSetUp setsUp findsFull readsMessage findsNone rows does registerChanged registersAfter
     fresh modeOf proper registersInRange sendingInRange actingInRange empty inRange writeCtrl0 changed stopped raised
 on-wakes = refl
 
 pub on-empty : switchedOn .rx .count ≡ 0
-unfolding transfer judged rowJudged refusal lengthFits outsideSetUp setsUp findsFull readsMessage findsNone rows does registerChanged registersAfter
+unfolding transfer verdict rowJudged refusal lengthFits outsideSetUp setsUp findsFull readsMessage findsNone rows does registerChanged registersAfter
     fresh modeOf proper registersInRange sendingInRange actingInRange empty inRange writeCtrl0 changed stopped raised
 on-empty = refl
