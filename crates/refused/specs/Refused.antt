@@ -34,7 +34,7 @@ outsideSetUp acting v = pick (eqb acting initialization) false (setsUp v)
 
 -- 6: "a message is written and eight are in the transmit FIFO", by how many there are
 unfoldable pub findsFull : ℕ → ℕ → Bool
-findsFull sending v = pick (eqb v writeMessage) (leb 8 sending) false
+findsFull waiting v = pick (eqb v writeMessage) (leb 8 waiting) false
 
 -- 7: "a receive FIFO or history read finds none", by how many messages and entries there are
 unfoldable pub readsMessage : ℕ → Bool

@@ -57,11 +57,11 @@ fn outside_set_up(acting: u8, v: u8) -> bool
 }
 
 // 6: a message is written and eight are in the transmit FIFO.
-fn finds_full(sending: u8, v: u8) -> bool
-    ensures { λ r. ⌜ r ≡ findsFull sending v ⌝ }
+fn finds_full(waiting: u8, v: u8) -> bool
+    ensures { λ r. ⌜ r ≡ findsFull waiting v ⌝ }
 {
     if v == verb::WRITE_MESSAGE {
-        8 <= sending
+        8 <= waiting
     } else {
         false
     }
