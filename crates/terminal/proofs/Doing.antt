@@ -21,7 +21,7 @@ use Rattle.drawn.specs.Drawn.{share, statf, int}
 use Rattle.refused.specs.declared.Verdict.{Verdict}
 use Rattle.refused.specs.declared.Verdict.the-variants.{Accepted}
 use Rattle.refused.specs.Refused.{lengthFits, setsUp, outsideSetUp, readsMessage, findsFull, findsNone, refusal, rowJudged, verdict}
-use Rattle.fifo.specs.Queue.{empty, inRange, put, take as takeOff}
+use Rattle.fifo.specs.Queue.{empty, full, isEmpty, inRange, put, take as takeOff}
 use Rattle.frame.specs.Length.{dataLength, dataBytes, possible, dataFits}
 use Rattle.counters.specs.Rules.{goodFrame}
 use Rattle.flags.specs.Flags.{raised}
@@ -47,11 +47,11 @@ bit-one a b c d e f g h p q = omega arith
 pub empty-shown : (d : Device) → isSet 1 (statf d) ≡ eqb (d .rx .count) 0
 unfolding statf
 empty-shown d =
-    flag-back (eqb (d .rx .count) 0) _
-    (bit-one (flag (eqb (d .tx .count) 0)) (flag (eqb (d .tx .count) 8)) (flag (eqb (d .history .count) 8))
+    flag-back (isEmpty (d .rx)) _
+    (bit-one (flag (isEmpty (d .tx))) (flag (full (d .tx))) (flag (full (d .history)))
     (flag (errw (d .counters))) (flag (errp (d .counters))) (flag (d .counters .busoff))
-    (flag (eqb (d .rx .count) 0)) (flag (eqb (d .rx .count) 8))
-    (flag-le (eqb (d .rx .count) 0)) (flag-le (eqb (d .rx .count) 8)))
+    (flag (isEmpty (d .rx))) (flag (full (d .rx)))
+    (flag-le (isEmpty (d .rx))) (flag-le (full (d .rx))))
 
 module _ (d : Device) (in-range : proper d ≡ true) (acts : d .acting ≡ normal) where
   after : (bytes : List ℕ) (v : Verdict) → Device
