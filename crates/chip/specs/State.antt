@@ -80,6 +80,11 @@ fresh = record {
 }
 
 -- the bits of CTRL0 and CTRL1 that act
+
+-- RESET, in a byte that is written to CTRL0: "1 = Master Reset (same as MR pin = 1)"
+abbrev pub resetBit : ℕ → Bool
+resetBit ctrl0 = isSet 3 ctrl0
+
 abbrev pub bor : Device → Bool
 bor d = isSet 2 (d .regs .ctrl0)
 
@@ -91,6 +96,10 @@ txen d = isSet 7 (d .regs .ctrl1)
 
 abbrev pub tx1m : Device → Bool
 tx1m d = isSet 6 (d .regs .ctrl1)
+
+-- OSM: "1 = Enable one-shot mode"
+abbrev pub osm : ℕ → Bool
+osm ctrl1 = isSet 5 ctrl1
 
 abbrev pub filton : Device → Bool
 filton d = isSet 4 (d .regs .ctrl1)

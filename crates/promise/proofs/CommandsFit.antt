@@ -6,7 +6,7 @@ use Prim.Native.Nat.{ℕ}
 use borrow.Author.Tests.{eqb-true}
 use lib.Dec.{eqb, leb, ltb}
 use lib.ListN.{length}
-use Rattle.base.specs.Bit.{byte, isSet}
+use Rattle.base.specs.Bit.{byte}
 use Rattle.counters.specs.Rules.{testRec, testTec}
 use Rattle.fifo.specs.declared.Message.{Message}
 use Rattle.fifo.specs.Queue.{empty, put}
@@ -14,7 +14,7 @@ use Rattle.filter.specs.Lowest.{filhit}
 use Rattle.chip.specs.declared.Device.{Device}
 use Rattle.chip.specs.declared.Registers.{Registers}
 use Rattle.chip.specs.Parts.{with-tx}
-use Rattle.chip.specs.State.{fresh, modeOf, sleep, idle, first-in-fifo, alone}
+use Rattle.chip.specs.State.{fresh, modeOf, sleep, idle, first-in-fifo, alone, resetBit}
 use Rattle.flags.specs.Flags.{raised}
 use Rattle.flags.specs.Reset.{reset}
 use Rattle.transmit.specs.Transmit.{aborted, cleared, leftAlone, stopped}
@@ -55,7 +55,7 @@ module _ (d : Device) (h : InRange d) where
   ctrl0-in : (v : ℕ) → InRange (writeCtrl0 d v)
   unfolding writeCtrl0 changed raised stopped reset fresh modeOf
   ctrl0-in v =
-      pick-under InRange (isSet 3 v) _ _
+      pick-under InRange (resetBit v) _ _
       (λ resets. (empty-fits, empty-fits, empty-fits, h .3, h .4, refl, refl, refl, refl))
       (λ stays. pick-under InRange (eqb (modeOf v) sleep) _ _
       (λ sleeps. (h .0, h .1, h .2, h .3, h .4, h .5, h .6, h .7, rw sleeps (acting-le (d .acting) (d .regs .ctrl0) (h .8))))

@@ -21,7 +21,7 @@ use Rattle.filter.specs.Lowest.{filhit}
 use Rattle.sent.specs.declared.Message.{Message as SentMessage}
 use Rattle.sent.specs.Sent.{messageOf, stored}
 use Rattle.chip.specs.declared.Device.{Device}
-use Rattle.chip.specs.State.{fresh, loopback}
+use Rattle.chip.specs.State.{fresh, loopback, resetBit}
 use Rattle.receive.specs.Receive.{hit, message}
 use Rattle.events.specs.declared.Event.{Event}
 use Rattle.events.specs.declared.Event.the-variants.{GoodFrame, ReceiveError, DominantBit, TransmitError, Begun, Completed, ArbitrationLost, ElevenRecessive}
@@ -172,7 +172,7 @@ command-truly d Nothing bytes room = tt
 command-truly d (At r) bytes room =
     pick-keeps (Truly d) (lengthFits r bytes && not (ltb room (r .out))) (among (r .verb) (meanings bytes) other) other
     (among-keeps (λ v m. Truly d m) (r .verb) (meanings bytes) other
-    (tt and tt and tt and tt and tt and tt and pick-keeps (Truly d) (isSet 3 (byte bytes 2)) clearing other tt tt and tt)
+    (tt and tt and tt and tt and tt and tt and pick-keeps (Truly d) (resetBit (byte bytes 2)) clearing other tt tt and tt)
     (λ out. tt))
     tt
 

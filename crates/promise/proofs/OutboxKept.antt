@@ -7,7 +7,6 @@ use native.Mathlib.Omega.{arith}
 use borrow.Author.Tests.{leb-true, leb-false, eqb-false, eq-eqb, ne-eqb}
 use lib.Dec.{eqb, leb}
 use lib.ListN.{length, getD, drop}
-use Rattle.base.specs.Bit.{isSet}
 use Rattle.base.specs.Pick.{pick}
 use Rattle.base.proofs.Booleans.{and-left, and-right}
 use Rattle.fifo.specs.declared.Fifo.{Fifo}
@@ -15,7 +14,7 @@ use Rattle.fifo.specs.declared.Message.{Message}
 use Rattle.fifo.specs.Queue.{empty, absent, isEmpty, waiting, take, next}
 use Rattle.fifo.proofs.Waiting.{put-waits, take-waits}
 use Rattle.chip.specs.declared.Device.{Device}
-use Rattle.chip.specs.State.{fresh, modeOf, sleep, idle, first-in-fifo}
+use Rattle.chip.specs.State.{fresh, modeOf, sleep, idle, first-in-fifo, resetBit}
 use Rattle.flags.specs.Flags.{raised}
 use Rattle.flags.specs.Reset.{reset}
 use Rattle.transmit.specs.Transmit.{canBegin, begun, stopped, cleared, leftAlone, fifoAfter, sent}
@@ -87,10 +86,10 @@ module _ (d : Device) (o : Outbox) (h : Held d o) where
   onward-held e same acting = rw (eq-eqb (d .acting) (e .acting) acting) (same-held e same)
 
   -- by whether RESET is written, MODE names sleep, or MODE names the acting mode
-  pub ctrl0-held : (v : ℕ) → Held (writeCtrl0 d v) (pick (isSet 3 v) emptied (onward o (d .acting) (writeCtrl0 d v .acting)))
+  pub ctrl0-held : (v : ℕ) → Held (writeCtrl0 d v) (pick (resetBit v) emptied (onward o (d .acting) (writeCtrl0 d v .acting)))
   unfolding writeCtrl0 changed raised stopped reset fresh
   ctrl0-held v =
-      pick-under (λ (e : Device). Held e (pick (isSet 3 v) emptied (onward o (d .acting) (e .acting)))) (isSet 3 v) _ _
+      pick-under (λ (e : Device). Held e (pick (resetBit v) emptied (onward o (d .acting) (e .acting)))) (resetBit v) _ _
       (λ resets. rw resets (empty-held _ refl refl))
       (λ stays. rw stays (pick-under (λ (e : Device). Held e (onward o (d .acting) (e .acting))) (eqb (modeOf v) sleep) _ _
       (λ sleeps. onward-held _ refl refl)

@@ -7,11 +7,11 @@ use native.Mathlib.Omega.{arith}
 use borrow.Author.Tests.{not-false}
 use lib.Dec.{eqb}
 use lib.ListN.{length}
-use Rattle.base.specs.Bit.{byte, isSet}
+use Rattle.base.specs.Bit.{byte}
 use Rattle.base.specs.Pick.{pick}
 use Rattle.frame.specs.declared.Header.{Header}
 use Rattle.chip.specs.declared.Device.{Device}
-use Rattle.chip.specs.State.{fresh, sleep, monitor, wakeup}
+use Rattle.chip.specs.State.{fresh, sleep, monitor, resetBit, wakeup}
 use Rattle.flags.specs.Flags.{raised, busError}
 use Rattle.flags.specs.Reset.{reset}
 use Rattle.transmit.specs.Transmit.{canBegin, aborted, stopped}
@@ -68,7 +68,7 @@ module _ (d : Device) (o : Outbox) (h : Held d o) where
     -- `commanded`, of a command for that, by the mode that acts after it
     abbrev commandedFor : ℕ → ℕ → Outbox
     commandedFor verb acting =
-        pick (eqb verb masterReset || (eqb verb writesCtrl0 && isSet 3 (byte bytes 2))) emptied
+        pick (eqb verb masterReset || (eqb verb writesCtrl0 && resetBit (byte bytes 2))) emptied
         (pick (eqb verb clearTransmit) (record { queue = []; running = orphaned (o .running) })
         (pick (eqb verb abortTransmission) (halted o)
         (pick (eqb verb writeMessage) (record { queue = o .queue ++ (brought bytes ∷ []); running = o .running })

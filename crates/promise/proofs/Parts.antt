@@ -6,13 +6,13 @@ use Prim.Native.Nat.{ℕ}
 use lib.ListN.{length}
 use lib.Bits.{bitOr}
 use lib.Dec.{eqb}
-use Rattle.base.specs.Bit.{byte, isSet}
+use Rattle.base.specs.Bit.{byte}
 use Rattle.base.specs.Pick.{pick, among}
 use Rattle.counters.specs.declared.Counters.{Counters}
 use Rattle.counters.specs.Rules.{testRec, testTec}
 use Rattle.chip.specs.declared.Device.{Device}
 use Rattle.chip.specs.Parts.{with-regs}
-use Rattle.chip.specs.State.{fresh, modeOf, sleep, initialization}
+use Rattle.chip.specs.State.{fresh, modeOf, sleep, initialization, resetBit}
 use Rattle.flags.specs.Flags.{raised, mchg}
 use Rattle.flags.specs.Reset.{reset}
 use Rattle.transmit.specs.Transmit.{aborted, cleared, stopped}
@@ -51,7 +51,7 @@ ctrl0Written w resets stays mode = record {
 }
 
 abbrev pub ctrl0After : Watched → ℕ → Watched
-ctrl0After w value = ctrl0Written w (isSet 3 value) (eqb (modeOf value) sleep || eqb (modeOf value) (w .acting)) (modeOf value)
+ctrl0After w value = ctrl0Written w (resetBit value) (eqb (modeOf value) sleep || eqb (modeOf value) (w .acting)) (modeOf value)
 
 -- the commands that change a part, and what each does
 abbrev pub changes : Watched → ℕ → List (ℕ × Watched)
@@ -89,7 +89,7 @@ module _ (d : Device) (k : ℕ) (bytes : List ℕ) where
 
   ctrl0-agrees : Agrees writesCtrl0 (writeCtrl0 d value)
   unfolding writeCtrl0
-  ctrl0-agrees = ctrl0-cases (isSet 3 value) (eqb (modeOf value) sleep) (eqb (modeOf value) (d .acting))
+  ctrl0-agrees = ctrl0-cases (resetBit value) (eqb (modeOf value) sleep) (eqb (modeOf value) (d .acting))
 
   message-agrees : watched (messageWritten d bytes) ≡ watched d
   unfolding messageWritten

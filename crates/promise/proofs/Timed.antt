@@ -5,11 +5,11 @@ use mathlib.Core.List.{List}
 use Prim.Native.Nat.{ℕ, _%_}
 use native.Mathlib.Omega.{arith}
 use lib.Dec.{eqb}
-use Rattle.base.specs.Bit.{byte, isSet}
+use Rattle.base.specs.Bit.{byte}
 use Rattle.base.specs.Pick.{pick}
 use Rattle.frame.specs.declared.Header.{Header}
 use Rattle.chip.specs.declared.Device.{Device}
-use Rattle.chip.specs.State.{fresh, monitor}
+use Rattle.chip.specs.State.{fresh, monitor, resetBit}
 use Rattle.flags.specs.Flags.{raised, busError}
 use Rattle.flags.specs.Reset.{reset}
 use Rattle.transmit.specs.Transmit.{stopped, begun, sent}
@@ -41,10 +41,10 @@ module _ (d : Device) (t : ℕ) (same : d .time ≡ t % 65536) where
   on-spi : (bytes buffer : List ℕ) → Timely (spi bytes buffer) (step d (spi bytes buffer))
   on-spi bytes buffer =
       by-command
-      (λ ok asked (w : Watched). w .time ≡ pick (ok && (asked resetTime || (asked masterReset || (asked writesCtrl0 && isSet 3 (byte bytes 2))))) 0 t % 65536)
+      (λ ok asked (w : Watched). w .time ≡ pick (ok && (asked resetTime || (asked masterReset || (asked writesCtrl0 && resetBit (byte bytes 2))))) 0 t % 65536)
       d bytes buffer
       same
-      (refl and pick-time (isSet 3 (byte bytes 2)) (d .time) t same and refl and same and same and same and same and tt)
+      (refl and pick-time (resetBit (byte bytes 2)) (d .time) t same and refl and same and same and same and same and tt)
       (λ v none. rw (none resetTime refl, none masterReset refl, none writesCtrl0 refl) same)
 
   after-time : (e : Event) → after d e .time ≡ ticksAfter t e % 65536

@@ -6,11 +6,11 @@ use mathlib.Core.List.{List, [], _∷_, _++_}
 use Prim.Native.Nat.{ℕ, _+_, _%_}
 use lib.Bits.{bitOr}
 use lib.Dec.{eqb}
-use Rattle.base.specs.Bit.{byte, isSet}
+use Rattle.base.specs.Bit.{byte}
 use Rattle.base.specs.Pick.{pick}
 use Rattle.counters.specs.declared.Counters.{Counters}
 use Rattle.counters.specs.Rules.{zeroed, receiveError, dominantBit, goodFrame, transmitError, completed, elevenRecessive, testRec, testTec}
-use Rattle.chip.specs.State.{fresh, normal, monitor, bor}
+use Rattle.chip.specs.State.{fresh, normal, monitor, resetBit, bor}
 use Rattle.events.specs.declared.ErrorKind.{ErrorKind}
 use Rattle.events.specs.declared.Event.{Event}
 use Rattle.events.specs.declared.Event.the-variants.{GoodFrame, ReceiveError, DominantBit, TransmitError, Begun, Completed, ArbitrationLost, ElevenRecessive}
@@ -33,7 +33,7 @@ asks verb bytes = command bytes (λ r. eqb (r .verb) verb)
 
 -- a master reset: 0x56, or a write of CTRL0's RESET bit
 abbrev pub resetAsked : List ℕ → Bool
-resetAsked bytes = asks masterReset bytes || (asks writeCtrl0 bytes && isSet 3 (byte bytes 2))
+resetAsked bytes = asks masterReset bytes || (asks writeCtrl0 bytes && resetBit (byte bytes 2))
 
 -- ---- REC, TEC, bus off and its groups
 

@@ -4,7 +4,7 @@ use mathlib.Core.List.{_∷_}
 use Prim.Native.Nat.{ℕ, _+_, _*_, _/_, _%_}
 use lib.Dec.{eqb}
 use lib.ListN.{drop}
-use Rattle.base.specs.Bit.{byte, isSet}
+use Rattle.base.specs.Bit.{byte}
 use Rattle.base.specs.Pick.{pick}
 use Rattle.counters.specs.declared.Counters.{Counters}
 use Rattle.counters.specs.Rules.{completed}
@@ -14,7 +14,7 @@ use Rattle.fifo.specs.Queue.{empty, isEmpty, put, take, next}
 use Rattle.chip.specs.declared.Device.{Device}
 use Rattle.chip.specs.declared.Registers.{Registers}
 use Rattle.chip.specs.Parts.{with-regs, with-ctrl1, with-mtag, with-counters, with-tx, with-buffer, with-sending, with-history}
-use Rattle.chip.specs.State.{normal, loopback, monitor, idle, first-in-fifo, alone, enabled}
+use Rattle.chip.specs.State.{normal, loopback, monitor, idle, first-in-fifo, alone, osm, enabled}
 use Rattle.flags.specs.Flags.{raised, txcplt}
 
 -- the modes that can send
@@ -32,7 +32,7 @@ withoutTx1m ctrl1 = ctrl1 / 128 * 128 + ctrl1 % 64
 
 -- 000, CTRL1: TX1M is reset "by initiation of transmission if the OSM bit is set"
 unfoldable pub ctrl1Begun : ℕ → ℕ
-ctrl1Begun ctrl1 = pick (isSet 5 ctrl1) (withoutTx1m ctrl1) ctrl1
+ctrl1Begun ctrl1 = pick (osm ctrl1) (withoutTx1m ctrl1) ctrl1
 
 -- "A begun message is copied to the transmit buffer and leaves the FIFO when completed."
 unfoldable pub begun : Device → Device
