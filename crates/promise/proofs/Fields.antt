@@ -38,7 +38,7 @@ use Rattle.promise.specs.Ledger.{Shows, Truly, hidden}
 use Rattle.promise.specs.Outbox.{Running, none, first, orphan, Outbox, emptied, halted, orphaned, brought, remaining, commanded, happened, outboxAfter, outbox}
 use Rattle.promise.specs.Outbox.{Runs}
 use Rattle.promise.specs.Promises.{FieldsStandAsTheyArrived}
-use Rattle.promise.specs.Sums.{done, asks, resetAsked}
+use Rattle.promise.specs.Sums.{done, asks, resetAsked, resetMet}
 use Rattle.promise.proofs.Each.{Each, each-more}
 use Rattle.promise.proofs.Among.{_and_, among-keeps}
 use Rattle.promise.proofs.Choices.{pick-keeps, pick-under}
@@ -138,7 +138,7 @@ module _ (o : Outbox) (h : BoxHeaded o) where
   happened-headed Completed = (remaining-headed (o .queue) (o .running) (h .0), tt)
   happened-headed (TransmitError kind counted) = (h .0, tt)
   happened-headed ArbitrationLost = (h .0, tt)
-  happened-headed MasterReset = (tt, tt)
+  happened-headed MasterReset = h
   happened-headed (GoodFrame header acknowledged n) = h
   happened-headed (ReceiveError kind) = h
   happened-headed DominantBit = h
@@ -152,7 +152,9 @@ module _ (o : Outbox) (h : BoxHeaded o) where
   after-headed : (d : Device) (i : Input) (s : Step) → BoxHeaded (outboxAfter d o i s)
   after-headed d (spi bytes buffer) s =
       pick-keeps BoxHeaded (done (s .given)) (commanded o bytes (d .acting) (s .device .acting)) o (commanded-headed bytes (d .acting) (s .device .acting)) h
-  after-headed d (wire e payload) s = pick-keeps BoxHeaded (done (s .given)) (happened o e) o (happened-headed e) h
+  after-headed d (wire e payload) s =
+      pick-keeps BoxHeaded (done (s .given)) (pick (resetMet e) emptied (happened o e)) o
+      (pick-keeps BoxHeaded (resetMet e) emptied (happened o e) (tt, tt) (happened-headed e)) h
 
 outbox-headed : (is : List Input) → BoxHeaded (outbox step is)
 outbox-headed is = keeps _ (λ d o. BoxHeaded o) (λ d o i h. after-headed o h d i (step d i)) fresh emptied is (tt, tt)

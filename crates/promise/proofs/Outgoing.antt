@@ -32,6 +32,7 @@ use Rattle.done.specs.Done.{registerChanged, messageTaken, entryTaken, receiveC
 use Rattle.promise.specs.Promises.{OwnMessagesAreThoseWritten}
 use Rattle.promise.specs.Sequence.{Input, spi, wire, Step, shipped as step, number, run}
 use Rattle.promise.specs.Numbers.{row, lowest}
+use Rattle.promise.specs.Sums.{resetMet}
 use Rattle.promise.specs.Outbox.{Outbox, emptied, halted, orphaned, brought, commanded, happened, outboxAfter, outbox}
 use Rattle.promise.proofs.Among.{_and_, among-keeps, none-of}
 use Rattle.promise.proofs.Choices.{pick-keeps, or-left}
@@ -129,7 +130,7 @@ module _ (d : Device) (o : Outbox) (h : Held d o) where
   unfolding echoed
   echoed-held what = sent-held _ o (arrived-held _ _ what)
 
-  after-held : (e : Event) → impossible d e ≡ false → Held (after d e) (happened o e)
+  after-held : (e : Event) → impossible d e ≡ false → Held (after d e) (pick (resetMet e) emptied (happened o e))
   unfolding after impossible errorReceived errorSent stopped busError raised recessiveMet ticked pinSet reset fresh
   after-held (GoodFrame header acknowledged n) possible = h
   after-held (ReceiveError kind) possible = same-held d o h _ refl
@@ -148,7 +149,7 @@ module _ (d : Device) (o : Outbox) (h : Held d o) where
 
   event-held : (e : Event) (payload : List ℕ) → Held (step d (wire e payload) .device) (outboxAfter d o (wire e payload) (step d (wire e payload)))
   event-held e payload =
-      by-happening (λ e ok given (after : Device). Held after (pick ok (happened o e) o)) d payload
+      by-happening (λ e ok given (after : Device). Held after (pick ok (pick (resetMet e) emptied (happened o e)) o)) d payload
       (λ e n. h)
       (λ header acknowledged n what possible. same-held d o h _ (frame-same d header payload what))
       (λ what possible back taken. echoed-held what)

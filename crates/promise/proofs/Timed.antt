@@ -22,7 +22,7 @@ use Rattle.changed.specs.Changed.{after, reachesBuffer, frameAfter, heard, echo
 use Rattle.commands.specs.Verbs.{resetTime, masterReset, writeCtrl0 as writesCtrl0}
 use Rattle.promise.specs.Promises.{TheTimeTagIsTheTicks}
 use Rattle.promise.specs.Sequence.{Input, spi, wire, Step, shipped as step}
-use Rattle.promise.specs.Sums.{clocked, ticksAfter}
+use Rattle.promise.specs.Sums.{resetMet, clocked, ticksAfter}
 use Rattle.promise.proofs.Among.{_and_}
 use Rattle.promise.proofs.Choices.{pick-keeps}
 use Rattle.promise.proofs.Steps.{keeps}
@@ -47,7 +47,7 @@ module _ (d : Device) (t : ℕ) (same : d .time ≡ t % 65536) where
       (refl and pick-time (resetBit (byte bytes 2)) (d .time) t same and refl and same and same and same and same and tt)
       (λ v none. rw (none resetTime refl, none masterReset refl, none writesCtrl0 refl) same)
 
-  after-time : (e : Event) → after d e .time ≡ ticksAfter t e % 65536
+  after-time : (e : Event) → after d e .time ≡ pick (resetMet e) 0 (ticksAfter t e) % 65536
   unfolding after errorReceived busError raised dominantMet errorSent stopped begun sent recessiveMet tickedOn pinSet reset fresh
   after-time (GoodFrame h acknowledged n) = same
   after-time (ReceiveError kind) = same
@@ -72,7 +72,7 @@ module _ (d : Device) (t : ℕ) (same : d .time ≡ t % 65536) where
   on-wire : (e : Event) (payload : List ℕ) → Timely (wire e payload) (step d (wire e payload))
   unfolding echoed sent arrived raised
   on-wire e payload =
-      by-happening (λ e ok given (after : Device). after .time ≡ pick ok (ticksAfter t e) t % 65536) d payload
+      by-happening (λ e ok given (after : Device). after .time ≡ pick ok (pick (resetMet e) 0 (ticksAfter t e)) t % 65536) d payload
       (λ e n. same)
       (λ h acknowledged n what possible. frame-time h payload what)
       (λ what possible back taken. same)

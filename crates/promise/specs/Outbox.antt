@@ -16,7 +16,7 @@ use Rattle.events.specs.declared.Event.the-variants.{GoodFrame, ReceiveError, D
 use Rattle.events.specs.declared.Event.the-variants.{BusQuiet, BusActivity, Ticks, TxenPin, MasterReset, Unknown}
 use Rattle.commands.specs.Verbs.{abortTransmission, clearTransmit, writeMessage}
 use Rattle.promise.specs.Sequence.{Input, spi, wire, Step, Machine, run, along}
-use Rattle.promise.specs.Sums.{done, asks, resetAsked}
+use Rattle.promise.specs.Sums.{done, asks, resetAsked, resetMet}
 
 pub data Running : Type 0 where
   none : Running
@@ -60,13 +60,13 @@ remaining queue none = queue
 remaining queue (first m) = drop 1 queue
 remaining queue (orphan m) = queue
 
--- an event that was done
+-- an event that was done, if it is no master reset
 abbrev pub happened : Outbox → Event → Outbox
 happened o Begun = record { queue = o .queue; running = first (getD (o .queue) 0 absent) }
 happened o Completed = record { queue = remaining (o .queue) (o .running); running = none }
 happened o (TransmitError kind counted) = halted o
 happened o ArbitrationLost = halted o
-happened o MasterReset = emptied
+happened o MasterReset = o
 happened o (GoodFrame h acknowledged n) = o
 happened o (ReceiveError kind) = o
 happened o DominantBit = o
@@ -79,7 +79,7 @@ happened o Unknown = o
 
 abbrev pub outboxAfter : Device → Outbox → Input → Step → Outbox
 outboxAfter d o (spi bytes buffer) s = pick (done (s .given)) (commanded o bytes (d .acting) (s .device .acting)) o
-outboxAfter d o (wire e payload) s = pick (done (s .given)) (happened o e) o
+outboxAfter d o (wire e payload) s = pick (done (s .given)) (pick (resetMet e) emptied (happened o e)) o
 
 abbrev pub outbox : Machine → List Input → Outbox
 outbox step = along step (λ d o i. outboxAfter d o i (step d i)) fresh emptied

@@ -1,7 +1,7 @@
 -- Demand 2, over sequences: counters, time tag and ERR are what 01's rules make of all that happened. Each is written down along the sequence from the
 -- inputs and their answers; the counters' rules also ask the device for its acting mode and for BOR. None reads the part that it speaks of.
 use mathlib.Core.Path.{_≡_}
-use mathlib.Core.Bool.{Bool, false, not, _&&_, _||_}
+use mathlib.Core.Bool.{Bool, true, false, not, _&&_, _||_}
 use mathlib.Core.List.{List, [], _∷_, _++_}
 use Prim.Native.Nat.{ℕ, _+_, _%_}
 use lib.Bits.{bitOr}
@@ -34,6 +34,23 @@ asks verb bytes = command bytes (λ r. eqb (r .verb) verb)
 -- a master reset: 0x56, or a write of CTRL0's RESET bit
 abbrev pub resetAsked : List ℕ → Bool
 resetAsked bytes = asks masterReset bytes || (asks writeCtrl0 bytes && resetBit (byte bytes 2))
+
+-- and of the events the MR pin alone
+abbrev pub resetMet : Event → Bool
+resetMet MasterReset = true
+resetMet (GoodFrame h acknowledged n) = false
+resetMet (ReceiveError kind) = false
+resetMet DominantBit = false
+resetMet (TransmitError kind isCounted) = false
+resetMet Begun = false
+resetMet Completed = false
+resetMet ArbitrationLost = false
+resetMet ElevenRecessive = false
+resetMet BusQuiet = false
+resetMet BusActivity = false
+resetMet (Ticks count) = false
+resetMet (TxenPin level) = false
+resetMet Unknown = false
 
 -- ---- REC, TEC, bus off and its groups
 
@@ -82,10 +99,10 @@ Counted step = (is : List Input) → run step fresh is .counters ≡ sum step is
 
 -- ---- the time tag
 
--- the ticks since the last reset, by 0x58, 0x56, CTRL0 or MR
+-- the ticks since the last reset, by 0x58 or a master reset
 abbrev pub ticksAfter : ℕ → Event → ℕ
 ticksAfter t (Ticks count) = t + count
-ticksAfter t MasterReset = 0
+ticksAfter t MasterReset = t
 ticksAfter t (GoodFrame h acknowledged n) = t
 ticksAfter t (ReceiveError kind) = t
 ticksAfter t DominantBit = t
@@ -101,7 +118,7 @@ ticksAfter t Unknown = t
 
 abbrev pub clocked : ℕ → Input → Given → ℕ
 clocked t (spi bytes buffer) given = pick (done given && (asks resetTime bytes || resetAsked bytes)) 0 t
-clocked t (wire e payload) given = pick (done given) (ticksAfter t e) t
+clocked t (wire e payload) given = pick (done given) (pick (resetMet e) 0 (ticksAfter t e)) t
 
 abbrev pub ticks : Machine → List Input → ℕ
 ticks step = along step (λ d t i. clocked t i (step d i .given)) fresh 0
