@@ -10,7 +10,7 @@ use Rattle.frame.specs.declared.Header.{Header}
 use Rattle.frame.specs.Received.{headerIn, dataIn}
 use Rattle.chip.specs.declared.Device.{Device}
 use Rattle.chip.specs.Parts.{with-counters, with-time, with-txenpin}
-use Rattle.chip.specs.State.{normal, monitor, bor}
+use Rattle.chip.specs.State.{normal, unlessMonitor, bor}
 use Rattle.receive.specs.declared.Arrival.{Arrival}
 use Rattle.receive.specs.declared.Arrival.the-variants.{Queued, A1, A2, A3, A4, A5}
 use Rattle.flags.specs.Flags.{busError}
@@ -53,19 +53,21 @@ reachesBuffer A5 = true
 unfoldable pub frameAfter : Device → Header → List ℕ → Arrival → Device
 frameAfter d h bytes what = pick (reachesBuffer what) (heard d h bytes what) (busActivity d)
 
--- "Monitor mode moves neither."
+-- "Receive error: REC + 1."
 unfoldable pub countedReceiveError : Counters → ℕ → Counters
-countedReceiveError c acting = pick (eqb acting monitor) c (receiveError c)
+countedReceiveError c acting = unlessMonitor acting c (receiveError c)
 
 -- "the event sets that bit, also when exempt or in monitor mode"
 unfoldable pub errorReceived : Device → ErrorKind → Device
 errorReceived d kind = with-counters (busError d (errBit kind)) (countedReceiveError (d .counters) (d .acting))
 
+-- "Dominant after our flag: REC + 8."
 unfoldable pub dominantMet : Device → Device
-dominantMet d = pick (eqb (d .acting) monitor) d (with-counters d (dominantBit (d .counters)))
+dominantMet d = unlessMonitor (d .acting) d (with-counters d (dominantBit (d .counters)))
 
+-- "Counted transmit error: TEC + 8."
 unfoldable pub countedTransmitError : Counters → ℕ → Bool → Counters
-countedTransmitError c acting counted = pick counted (pick (eqb acting monitor) c (transmitError c)) c
+countedTransmitError c acting counted = pick counted (unlessMonitor acting c (transmitError c)) c
 
 -- an error leaves the message first in the FIFO, to be sent again
 unfoldable pub errorSent : Device → ErrorKind → Bool → Device

@@ -2,7 +2,7 @@
 use mathlib.Core.Bool.{Bool, false, _||_}
 use mathlib.Core.List.{List, []}
 use Prim.Native.Nat.{ℕ, _/_}
-use lib.Dec.{ltb}
+use lib.Dec.{eqb, ltb}
 use lib.ListN.{getD, replicate}
 use Rattle.base.specs.Bit.{isSet}
 use Rattle.base.specs.Pick.{pick}
@@ -28,6 +28,10 @@ sleep = 3
 
 abbrev pub initialization : ℕ
 initialization = 4
+
+-- 01, Bus events: "Monitor mode moves neither", REC nor TEC: what stands there, and what a rule makes of it in any other mode
+abbrev pub unlessMonitor : {A : Type 0} → ℕ → A → A → A
+unlessMonitor acting before after = pick (eqb acting monitor) before after
 
 -- MODE is CTRL0's bits 7 to 5.
 unfoldable pub modeOf : ℕ → ℕ

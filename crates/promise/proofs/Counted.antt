@@ -1,12 +1,12 @@
 -- REC, TEC, bus off and its groups along a sequence. Assumes nothing.
 use mathlib.Core.Path.{_≡_, refl, ap, _∙_}
-use mathlib.Core.Bool.{Bool, true, false, not, _&&_}
+use mathlib.Core.Bool.{Bool, true, false, _&&_}
 use mathlib.Core.List.{List}
 use Prim.Native.Nat.{ℕ}
 use lib.Dec.{eqb}
 use Rattle.base.specs.Bit.{byte}
 use Rattle.base.specs.Pick.{pick}
-use Rattle.counters.specs.Rules.{zeroed, goodFrame, transmitError, testRec, testTec}
+use Rattle.counters.specs.Rules.{zeroed, goodFrame, testRec, testTec}
 use Rattle.frame.specs.declared.Header.{Header}
 use Rattle.chip.specs.declared.Device.{Device}
 use Rattle.chip.specs.State.{fresh, normal, monitor, bor}
@@ -38,11 +38,6 @@ frame-pick true false x y = refl
 frame-pick false true x y = refl
 frame-pick false false x y = refl
 
-error-pick : {A : Type 0} (counts monitors : Bool) (x y : A) → pick counts (pick monitors y x) y ≡ pick (counts && not monitors) x y
-error-pick true true x y = refl
-error-pick true false x y = refl
-error-pick false monitors x y = refl
-
 module _ (d : Device) where
   abbrev Counts : Input → Step → Type 0
   Counts i s = s .device .counters ≡ counted (d .acting) (bor d) (d .counters) i (s .given)
@@ -66,7 +61,7 @@ module _ (d : Device) where
   after-counters (GoodFrame h acknowledged n) = refl
   after-counters (ReceiveError kind) = refl
   after-counters DominantBit = pick-part (λ (e : Device). e .counters) (eqb (d .acting) monitor) _ _
-  after-counters (TransmitError kind counts) = error-pick counts (eqb (d .acting) monitor) (transmitError (d .counters)) (d .counters)
+  after-counters (TransmitError kind counts) = refl
   after-counters Begun = refl
   after-counters Completed = refl
   after-counters ArbitrationLost = refl

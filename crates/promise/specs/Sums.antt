@@ -1,7 +1,7 @@
 -- Demand 2, over sequences: counters, time tag and ERR are what 01's rules make of all that happened. Each is written down along the sequence from the
 -- inputs and their answers; the counters' rules also ask the device for its acting mode and for BOR. None reads the part that it speaks of.
 use mathlib.Core.Path.{_≡_}
-use mathlib.Core.Bool.{Bool, true, false, not, _&&_, _||_}
+use mathlib.Core.Bool.{Bool, true, false, _&&_, _||_}
 use mathlib.Core.List.{List, [], _∷_, _++_}
 use Prim.Native.Nat.{ℕ, _+_, _%_}
 use lib.Bits.{bitOr}
@@ -10,7 +10,7 @@ use Rattle.base.specs.Bit.{byte}
 use Rattle.base.specs.Pick.{pick}
 use Rattle.counters.specs.declared.Counters.{Counters}
 use Rattle.counters.specs.Rules.{zeroed, receiveError, dominantBit, goodFrame, transmitError, completed, elevenRecessive, testRec, testTec}
-use Rattle.chip.specs.State.{fresh, normal, monitor, resetBit, bor}
+use Rattle.chip.specs.State.{fresh, normal, unlessMonitor, resetBit, bor}
 use Rattle.events.specs.declared.ErrorKind.{ErrorKind}
 use Rattle.events.specs.declared.Event.{Event}
 use Rattle.events.specs.declared.Event.the-variants.{GoodFrame, ReceiveError, DominantBit, TransmitError, Begun, Completed, ArbitrationLost, ElevenRecessive}
@@ -61,13 +61,13 @@ lowersRec acting (answered (Refused n)) = false
 lowersRec acting (answered Done) = false
 lowersRec acting (answered (Arrived what)) = eqb acting normal && reachesBuffer what
 
--- the rule of an event that was not refused; "Monitor mode moves neither"
+-- the rule of an event that was not refused
 abbrev pub countedEvent : ℕ → Bool → Counters → Event → Given → Counters
 countedEvent acting recovers c (GoodFrame h acknowledged n) given = pick (lowersRec acting given) (goodFrame c) c
-countedEvent acting recovers c (ReceiveError kind) given = pick (eqb acting monitor) c (receiveError c)
-countedEvent acting recovers c DominantBit given = pick (eqb acting monitor) c (dominantBit c)
-countedEvent acting recovers c (TransmitError kind counted) given = pick (counted && not (eqb acting monitor)) (transmitError c) c
-countedEvent acting recovers c Completed given = pick (eqb acting monitor) c (completed c)
+countedEvent acting recovers c (ReceiveError kind) given = unlessMonitor acting c (receiveError c)
+countedEvent acting recovers c DominantBit given = unlessMonitor acting c (dominantBit c)
+countedEvent acting recovers c (TransmitError kind counted) given = pick counted (unlessMonitor acting c (transmitError c)) c
+countedEvent acting recovers c Completed given = unlessMonitor acting c (completed c)
 countedEvent acting recovers c ElevenRecessive given = elevenRecessive c recovers
 countedEvent acting recovers c Begun given = c
 countedEvent acting recovers c ArbitrationLost given = c

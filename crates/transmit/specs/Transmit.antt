@@ -14,7 +14,7 @@ use Rattle.fifo.specs.Queue.{empty, isEmpty, put, take, next}
 use Rattle.chip.specs.declared.Device.{Device}
 use Rattle.chip.specs.declared.Registers.{Registers}
 use Rattle.chip.specs.Parts.{with-regs, with-ctrl1, with-mtag, with-counters, with-tx, with-buffer, with-sending, with-history}
-use Rattle.chip.specs.State.{normal, loopback, monitor, idle, first-in-fifo, alone, osm, enabled}
+use Rattle.chip.specs.State.{normal, loopback, unlessMonitor, idle, first-in-fifo, alone, osm, enabled}
 use Rattle.flags.specs.Flags.{raised, txcplt}
 
 -- the modes that can send
@@ -68,9 +68,9 @@ stamped m time = record { bytes = byte (m .bytes) 1 ∷ time / 256 ∷ time % 25
 unfoldable pub fifoAfter : Fifo → ℕ → Fifo
 fifoAfter tx sending = pick (eqb sending first-in-fifo) (take tx) tx
 
--- "Completed: TEC - 1"; "Monitor mode moves neither"
+-- "Completed: TEC - 1, not below 0."
 unfoldable pub countedCompletion : Counters → ℕ → Counters
-countedCompletion c acting = pick (eqb acting monitor) c (completed c)
+countedCompletion c acting = unlessMonitor acting c (completed c)
 
 -- MTAG is "the last two bits of the host assigned message tag of the last successful transmission".
 abbrev pub tagBits : Message → ℕ
