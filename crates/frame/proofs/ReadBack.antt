@@ -13,7 +13,7 @@ use Rattle.base.specs.Pick.{pick, flag}
 use Rattle.base.proofs.Booleans.{flag-le, flag-back}
 use Rattle.frame.specs.declared.Header.{Header}
 use Rattle.frame.specs.Length.{possible, dataBytes, dataOf}
-use Rattle.frame.specs.Tables.{idBits, idFrom, readId}
+use Rattle.frame.specs.Tables.{idBits, idFrom, idAsRead}
 use Rattle.frame.specs.Received.{received, headerIn, timeIn, filterIn, dataIn}
 use Rattle.frame.proofs.Parts.{third-bit, last-bit, id-back, code-fits, id-bits-lt, id-bits-back, header-path}
 
@@ -27,7 +27,7 @@ module _ (h : Header) (bytes : List ℕ) (time filhit : ℕ) where
   filter-back = omega arith
 
   pub data-back : dataIn (received h bytes time filhit) ≡ dataOf h bytes
-  unfolding received readId
+  unfolding received idAsRead
   data-back = refl
 
   module _ (ok : possible h ≡ true) where
@@ -53,7 +53,7 @@ module _ (h : Header) (bytes : List ℕ) (time filhit : ℕ) where
     read-back = id-back n ide ide rtr (flag-le (h .extended)) (flag-le (h .extended)) (flag-le (h .remote)) (id-bits-lt h ok)
 
     pub header-back : headerIn (received h bytes time filhit) ≡ h
-    unfolding received readId headerIn
+    unfolding received idAsRead headerIn
     header-back =
         header-path (headerIn (received h bytes time filhit)) h
         (ap (λ (t : Bool). pick t read (read / 2 ^ 18)) kind-back ∙ ap (λ (m : ℕ). pick (h .extended) m (m / 2 ^ 18)) read-back ∙ id-bits-back h ok)

@@ -57,7 +57,7 @@ module _ (M : Type 1) where
   frame·id-to-send = result frame.id_to_send.clauses (λ _. Tables.idToSend) refl
 
   pub frame·id-as-read : OneResult M frame.id_as_read.ended frame.id_as_read.spec
-  frame·id-as-read = result frame.id_as_read.clauses (λ _. Tables.readId) refl
+  frame·id-as-read = result frame.id_as_read.clauses (λ _. Tables.idAsRead) refl
 
   pub frame·compared : OneResult M frame.compared.ended frame.compared.spec
   frame·compared = result frame.compared.clauses (λ _. Tables.compared) refl

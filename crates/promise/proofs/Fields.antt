@@ -14,7 +14,7 @@ use Rattle.fifo.specs.declared.Message.{Message}
 use Rattle.fifo.specs.Queue.{absent}
 use Rattle.frame.specs.declared.Header.{Header}
 use Rattle.frame.specs.Length.{possible, dataFits}
-use Rattle.frame.specs.Tables.{idFrom, readId}
+use Rattle.frame.specs.Tables.{idFrom, idAsRead}
 use Rattle.frame.specs.Received.{received, idIn, headerIn, dataIn}
 use Rattle.frame.proofs.ReadBack.{header-back, data-back, time-back, filter-back}
 use Rattle.filter.specs.Lowest.{filhit}
@@ -80,7 +80,7 @@ abbrev Headed : Message → Type 0
 Headed m = possible (headerIn (m .bytes)) ≡ true
 
 stored-headed : (m : SentMessage) → possible (headerIn (stored m)) ≡ true
-unfolding stored received readId
+unfolding stored received idAsRead
 stored-headed m = header-possible (stored m) (omega arith) (omega arith) (omega arith)
 
 abbrev RunningHeaded : Running → Type 0

@@ -20,7 +20,7 @@ use Rattle.frame.specs.declared.Header.{Header}
 use Rattle.frame.specs.Length.{dataBytes, dataOf}
 use Rattle.frame.proofs.Data.{data-bytes-le}
 use Rattle.frame.specs.Received.{received}
-use Rattle.frame.specs.Tables.{readId}
+use Rattle.frame.specs.Tables.{idAsRead}
 use Rattle.chip.specs.declared.Device.{Device}
 use Rattle.receive.specs.declared.Arrival.{Arrival}
 use Rattle.receive.specs.Receive.{hit, message, isQueued, queueAfter}
@@ -46,7 +46,7 @@ data-length h payload =
     (omega arith)
 
 message-sized : (d : Device) (h : Header) (payload : List ℕ) → Sized (message d h payload)
-unfolding received readId
+unfolding received idAsRead
 message-sized d h payload =
     let few = data-length h payload in
     (omega arith, omega arith)

@@ -227,7 +227,7 @@ unfolding Transfer.transfer Transfer.replyAfter Refused.lengthFits Refused.setsU
     Done.does Modes.changed Modes.writeCtrl0 Modes.canSleep Modes.busQuiet Modes.busActivity Flags.raised Flags.busError Reset.reset Receive.hit
     Receive.room Receive.passed Receive.answered Receive.filtersAndRoom Receive.isQueued Receive.queuedFlag Receive.filterFlag Receive.queueAfter
     Receive.arrived Lowest.lowest Lowest.filhit Match.matches Length.dataLength Length.dataBytes Length.possible Length.dataFits Length.dataOf
-    Received.received Received.headerIn Tables.idBits Tables.idToSend Tables.readId Tables.compared Judged.quietMode Judged.noErrors Judged.runs
+    Received.received Received.headerIn Tables.idBits Tables.idToSend Tables.idAsRead Tables.compared Judged.quietMode Judged.noErrors Judged.runs
     Judged.impossibleFrame Judged.impossible Judged.takesNoFrames Judged.unacknowledged Judged.reason Judged.echo Judged.said Changed.errBit
     Changed.countedFrame Changed.heard Changed.reachesBuffer Changed.frameAfter Changed.countedReceiveError Changed.errorReceived Changed.dominantMet
     Changed.countedTransmitError Changed.errorSent Changed.echoed Changed.recessiveMet Changed.ticked Changed.pinSet Changed.arrival Changed.after
