@@ -41,15 +41,15 @@ modeOf ctrl0 = pick (ltb ctrl0 128) (ctrl0 / 32) initialization
 abbrev pub idle : ℕ
 idle = 0
 
-abbrev pub first-in-fifo : ℕ
-first-in-fifo = 1
+abbrev pub firstInFifo : ℕ
+firstInFifo = 1
 
 abbrev pub alone : ℕ
 alone = 2
 
 -- 000's defaults: CTRL0 has MODE 100, every other register is zero.
-abbrev pub fresh-registers : Registers
-fresh-registers = record {
+abbrev pub freshRegisters : Registers
+freshRegisters = record {
   ctrl0 = 0x80;
   ctrl1 = 0;
   btr0 = 0;
@@ -68,7 +68,7 @@ zeros = record { bytes = replicate 6 0 }
 
 unfoldable pub fresh : Device
 fresh = record {
-  regs = fresh-registers;
+  regs = freshRegisters;
   counters = zeroed;
   filters = replicate 8 zeros;
   masks = replicate 8 zeros;

@@ -21,7 +21,7 @@ pub const INITIALIZATION: u8 = 4;
 pub const IDLE: u8 = 0;
 
 // The running message is the first in the transmit FIFO.
-pub const FIRST: u8 = 1;
+pub const FIRST_IN_FIFO: u8 = 1;
 
 // 0x54 took the running message out of the FIFO.
 pub const ALONE: u8 = 2;
@@ -185,7 +185,7 @@ fn sending_in_range(d: Device) -> bool
 {
     let sending = d.sending;
     let waiting = d.tx.count;
-    if sending == FIRST {
+    if sending == FIRST_IN_FIFO {
         1 <= waiting
     } else {
         sending <= 2

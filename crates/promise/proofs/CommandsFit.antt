@@ -14,7 +14,7 @@ use Rattle.filter.specs.Lowest.{filhit}
 use Rattle.chip.specs.declared.Device.{Device}
 use Rattle.chip.specs.declared.Registers.{Registers}
 use Rattle.chip.specs.Parts.{with-tx}
-use Rattle.chip.specs.State.{fresh, modeOf, sleep, idle, first-in-fifo, alone, resetBit}
+use Rattle.chip.specs.State.{fresh, modeOf, sleep, idle, firstInFifo, alone, resetBit}
 use Rattle.flags.specs.Flags.{raised}
 use Rattle.flags.specs.Reset.{reset}
 use Rattle.transmit.specs.Transmit.{aborted, cleared, leftAlone, stopped}
@@ -48,7 +48,7 @@ module _ (d : Device) (h : InRange d) where
     h .4,
     h .5,
     h .6,
-    grows (eqb (d .sending) first-in-fifo) (d .tx .count) (put (d .tx) m .count) (leb (d .sending) alone) (put-grows (ltb (d .tx .count) 8) (d .tx) m refl) (h .7),
+    grows (eqb (d .sending) firstInFifo) (d .tx .count) (put (d .tx) m .count) (leb (d .sending) alone) (put-grows (ltb (d .tx .count) 8) (d .tx) m refl) (h .7),
     h .8,
   )
 

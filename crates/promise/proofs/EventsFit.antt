@@ -12,7 +12,7 @@ use Rattle.counters.specs.Rules.{receiveError, dominantBit, goodFrame, transmit
 use Rattle.fifo.specs.Queue.{isEmpty, inRange}
 use Rattle.frame.specs.declared.Header.{Header}
 use Rattle.chip.specs.declared.Device.{Device}
-use Rattle.chip.specs.State.{modeOf, normal, sleep, monitor, bor, wakeup, idle, first-in-fifo, loopback}
+use Rattle.chip.specs.State.{modeOf, normal, sleep, monitor, bor, wakeup, idle, firstInFifo, loopback}
 use Rattle.flags.specs.Flags.{raised, busError}
 use Rattle.transmit.specs.Transmit.{stopped, begun, canBegin, sent, fifoAfter, countedCompletion}
 use Rattle.modes.specs.Modes.{changed, busQuiet, busActivity, canSleep}
@@ -122,7 +122,7 @@ module _ (d : Device) (h : InRange d) where
   unfolding sent raised fifoAfter
   sent-in = (
     h .0,
-    pick-under (λ q. inRange q ≡ true) (eqb (d .sending) first-in-fifo) _ _ (λ own. take-fits (d .tx) (h .1)) (λ gone. h .1),
+    pick-under (λ q. inRange q ≡ true) (eqb (d .sending) firstInFifo) _ _ (λ own. take-fits (d .tx) (h .1)) (λ gone. h .1),
     put-fits (d .history) _ (h .2),
     completion-groups,
     h .4,

@@ -14,7 +14,7 @@ use Rattle.fifo.specs.declared.Message.{Message}
 use Rattle.fifo.specs.Queue.{empty, absent, isEmpty, waiting, take, next}
 use Rattle.fifo.proofs.Waiting.{put-waits, take-waits}
 use Rattle.chip.specs.declared.Device.{Device}
-use Rattle.chip.specs.State.{fresh, modeOf, sleep, idle, first-in-fifo, resetBit}
+use Rattle.chip.specs.State.{fresh, modeOf, sleep, idle, firstInFifo, resetBit}
 use Rattle.flags.specs.Flags.{raised}
 use Rattle.flags.specs.Reset.{reset}
 use Rattle.transmit.specs.Transmit.{canBegin, begun, stopped, cleared, leftAlone, fifoAfter, sent}
@@ -131,7 +131,7 @@ module _ (d : Device) (o : Outbox) (h : Held d o) where
   pub sent-held : Held (sent d) (record { queue = remaining (o .queue) (o .running); running = none })
   unfolding sent raised fifoAfter
   sent-held = record {
-    places = pick-keeps (λ (q : Fifo). length (q .items) ≡ 8) (eqb (d .sending) first-in-fifo) (take (d .tx)) (d .tx)
+    places = pick-keeps (λ (q : Fifo). length (q .items) ≡ 8) (eqb (d .sending) firstInFifo) (take (d .tx)) (d .tx)
         (rw (taken-items (d .tx)) (h .places)) (h .places);
     queued = sent-queue (o .running) (h .runs);
     runs = refl;

@@ -10,7 +10,7 @@ use Rattle.fifo.specs.declared.Message.{Message}
 use Rattle.fifo.specs.Queue.{absent, waiting}
 use Rattle.sent.specs.Sent.{messageOf, stored}
 use Rattle.chip.specs.declared.Device.{Device}
-use Rattle.chip.specs.State.{fresh, idle, first-in-fifo, alone}
+use Rattle.chip.specs.State.{fresh, idle, firstInFifo, alone}
 use Rattle.events.specs.declared.Event.{Event}
 use Rattle.events.specs.declared.Event.the-variants.{GoodFrame, ReceiveError, DominantBit, TransmitError, Begun, Completed, ArbitrationLost, ElevenRecessive}
 use Rattle.events.specs.declared.Event.the-variants.{BusQuiet, BusActivity, Ticks, TxenPin, MasterReset, Unknown}
@@ -87,7 +87,7 @@ outbox step = along step (λ d o i. outboxAfter d o i (step d i)) fresh emptied
 -- what the device has of it: the transmit buffer holds the message that runs
 abbrev pub Runs : Device → Running → Type 0
 Runs d none = d .sending ≡ idle
-Runs d (first m) = (d .sending ≡ first-in-fifo) × (d .buffer ≡ m)
+Runs d (first m) = (d .sending ≡ firstInFifo) × (d .buffer ≡ m)
 Runs d (orphan m) = (d .sending ≡ alone) × (d .buffer ≡ m)
 
 abbrev pub Sent : Machine → Type 0

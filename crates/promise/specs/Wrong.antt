@@ -16,7 +16,7 @@ use Rattle.fifo.specs.Queue.{empty, none, isEmpty, full, next, take}
 use Rattle.frame.specs.Received.{headerIn, dataIn}
 use Rattle.chip.specs.declared.Device.{Device}
 use Rattle.chip.specs.declared.Registers.{Registers}
-use Rattle.chip.specs.State.{idle, first-in-fifo, alone}
+use Rattle.chip.specs.State.{idle, firstInFifo, alone}
 use Rattle.chip.specs.Parts.{with-rx, with-tx, with-buffer, with-counters, with-regs, with-errs, with-intf}
 use Rattle.flags.specs.Flags.{txcplt}
 use Rattle.receive.specs.declared.Arrival.the-variants.{Queued, A5}
@@ -114,7 +114,7 @@ oldCompletion d (wire e payload) =
 -- one that begins a message without a copy of it: in loopback zeros arrive
 abbrev pub nothingCopied : Machine
 nothingCopied =
-    but (λ d i s. pick (eqb (d .sending) idle && eqb (s .device .sending) first-in-fifo) (with-device s (with-buffer (s .device) none)) s)
+    but (λ d i s. pick (eqb (d .sending) idle && eqb (s .device .sending) firstInFifo) (with-device s (with-buffer (s .device) none)) s)
 
 -- ---- replies
 

@@ -14,7 +14,7 @@ use Rattle.fifo.specs.Queue.{empty, isEmpty, put, take, next}
 use Rattle.chip.specs.declared.Device.{Device}
 use Rattle.chip.specs.declared.Registers.{Registers}
 use Rattle.chip.specs.Parts.{with-regs, with-ctrl1, with-mtag, with-counters, with-tx, with-buffer, with-sending, with-history}
-use Rattle.chip.specs.State.{normal, loopback, unlessMonitor, idle, first-in-fifo, alone, osm, enabled}
+use Rattle.chip.specs.State.{normal, loopback, unlessMonitor, idle, firstInFifo, alone, osm, enabled}
 use Rattle.flags.specs.Flags.{raised, txcplt}
 
 -- the modes that can send
@@ -39,7 +39,7 @@ unfoldable pub begun : Device → Device
 begun d =
     with-sending
     (with-buffer (with-regs d (with-ctrl1 (d .regs) (ctrl1Begun (d .regs .ctrl1)))) (next (d .tx)))
-    first-in-fifo
+    firstInFifo
 
 -- "abort, an error or lost arbitration leaves it first in the FIFO"; after 0x54, "if it fails or is aborted it is gone"
 unfoldable pub stopped : Device → Device
@@ -66,7 +66,7 @@ stamped m time = record { bytes = byte (m .bytes) 1 ∷ time / 256 ∷ time % 25
 
 -- The completed message leaves the FIFO, unless 0x54 took it out before: one that was written since then stays.
 unfoldable pub fifoAfter : Fifo → ℕ → Fifo
-fifoAfter tx sending = pick (eqb sending first-in-fifo) (take tx) tx
+fifoAfter tx sending = pick (eqb sending firstInFifo) (take tx) tx
 
 -- "Completed: TEC - 1, not below 0."
 unfoldable pub countedCompletion : Counters → ℕ → Counters
