@@ -41,25 +41,25 @@ unfoldable pub heard : Device → Header → List ℕ → Arrival → Device
 heard d h bytes what = with-counters (arrived d h bytes what) (countedFrame (d .counters) (d .acting))
 
 -- "A1 to A3 leave the temporary buffer alone. A4, A5 and Queued put the frame there."
-unfoldable pub reachesBuffer : Arrival → Bool
-reachesBuffer Queued = true
-reachesBuffer A1 = false
-reachesBuffer A2 = false
-reachesBuffer A3 = false
-reachesBuffer A4 = true
-reachesBuffer A5 = true
+unfoldable pub reachesTemporary : Arrival → Bool
+reachesTemporary Queued = true
+reachesTemporary A1 = false
+reachesTemporary A2 = false
+reachesTemporary A3 = false
+reachesTemporary A4 = true
+reachesTemporary A5 = true
 
 -- "With WAKEUP set, a bus activity event or a good frame in sleep brings monitor mode": a frame that isn't taken is activity
 unfoldable pub frameAfter : Device → Header → List ℕ → Arrival → Device
-frameAfter d h bytes what = pick (reachesBuffer what) (heard d h bytes what) (busActivity d)
+frameAfter d h bytes what = pick (reachesTemporary what) (heard d h bytes what) (busActivity d)
 
 -- "Receive error: REC + 1."
 unfoldable pub countedReceiveError : Counters → ℕ → Counters
 countedReceiveError c acting = unlessMonitor acting c (receiveError c)
 
 -- "the event sets that bit, also when exempt or in monitor mode"
-unfoldable pub errorReceived : Device → ErrorKind → Device
-errorReceived d kind = with-counters (busError d (errBit kind)) (countedReceiveError (d .counters) (d .acting))
+unfoldable pub receiveErrorMet : Device → ErrorKind → Device
+receiveErrorMet d kind = with-counters (busError d (errBit kind)) (countedReceiveError (d .counters) (d .acting))
 
 -- "Dominant after our flag: REC + 8."
 unfoldable pub dominantMet : Device → Device
@@ -70,8 +70,8 @@ unfoldable pub countedTransmitError : Counters → ℕ → Bool → Counters
 countedTransmitError c acting counted = pick counted (unlessMonitor acting c (transmitError c)) c
 
 -- an error leaves the message first in the FIFO, to be sent again
-unfoldable pub errorSent : Device → ErrorKind → Bool → Device
-errorSent d kind counted =
+unfoldable pub transmitErrorMet : Device → ErrorKind → Bool → Device
+transmitErrorMet d kind counted =
     stopped (with-counters (busError d (errBit kind)) (countedTransmitError (d .counters) (d .acting) counted))
 
 -- in loopback the own message arrives, with the time tag that the history gets too
@@ -108,9 +108,9 @@ arrival d Unknown bytes what = d
 -- an event that is done; a good frame's answer is an arrival
 unfoldable pub after : Device → Event → Device
 after d (GoodFrame h acknowledged given) = d
-after d (ReceiveError kind) = errorReceived d kind
+after d (ReceiveError kind) = receiveErrorMet d kind
 after d DominantBit = dominantMet d
-after d (TransmitError kind counted) = errorSent d kind counted
+after d (TransmitError kind counted) = transmitErrorMet d kind counted
 after d Begun = begun d
 after d Completed = sent d
 after d ArbitrationLost = stopped d

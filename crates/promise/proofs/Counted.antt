@@ -19,7 +19,7 @@ use Rattle.events.specs.declared.Event.{Event}
 use Rattle.events.specs.declared.Event.the-variants.{GoodFrame, ReceiveError, DominantBit, TransmitError, Begun, Completed, ArbitrationLost, ElevenRecessive}
 use Rattle.events.specs.declared.Event.the-variants.{BusQuiet, BusActivity, Ticks, TxenPin, MasterReset, Unknown}
 use Rattle.judged.specs.declared.Answer.the-variants.{Done}
-use Rattle.changed.specs.Changed.{after, reachesBuffer, frameAfter, heard, countedFrame, echoed, errorReceived, countedReceiveError, dominantMet, errorSent}
+use Rattle.changed.specs.Changed.{after, reachesTemporary, frameAfter, heard, countedFrame, echoed, receiveErrorMet, countedReceiveError, dominantMet, transmitErrorMet}
 use Rattle.changed.specs.Changed.{countedTransmitError, recessiveMet, ticked, pinSet}
 use Rattle.commands.specs.Verbs.{writeRec, writeTec}
 use Rattle.promise.specs.Promises.{CountersAreTheRulesSum}
@@ -56,7 +56,7 @@ module _ (d : Device) where
       (λ v none. rw (none writeRec refl, none writeTec refl))
 
   after-counters : (e : Event) → after d e .counters ≡ countedEvent (d .acting) (bor d) (d .counters) e (answered Done)
-  unfolding after errorReceived countedReceiveError busError raised dominantMet errorSent countedTransmitError stopped begun
+  unfolding after receiveErrorMet countedReceiveError busError raised dominantMet transmitErrorMet countedTransmitError stopped begun
       sent countedCompletion recessiveMet ticked pinSet reset
   after-counters (GoodFrame h acknowledged n) = refl
   after-counters (ReceiveError kind) = refl
@@ -74,12 +74,12 @@ module _ (d : Device) where
   after-counters Unknown = refl
 
   frame-counters : (h : Header) (payload : List ℕ) (what : Arrival)
-      → frameAfter d h payload what .counters ≡ pick (eqb (d .acting) normal && reachesBuffer what) (goodFrame (d .counters)) (d .counters)
+      → frameAfter d h payload what .counters ≡ pick (eqb (d .acting) normal && reachesTemporary what) (goodFrame (d .counters)) (d .counters)
   unfolding frameAfter heard countedFrame
   frame-counters h payload what =
-      pick-part (λ (e : Device). e .counters) (reachesBuffer what) _ _
-      ∙ ap (λ c. pick (reachesBuffer what) (pick (eqb (d .acting) normal) (goodFrame (d .counters)) (d .counters)) c) (ap (λ x. x .1) (activity-unmoved d))
-      ∙ frame-pick (reachesBuffer what) (eqb (d .acting) normal) (goodFrame (d .counters)) (d .counters)
+      pick-part (λ (e : Device). e .counters) (reachesTemporary what) _ _
+      ∙ ap (λ c. pick (reachesTemporary what) (pick (eqb (d .acting) normal) (goodFrame (d .counters)) (d .counters)) c) (ap (λ x. x .1) (activity-unmoved d))
+      ∙ frame-pick (reachesTemporary what) (eqb (d .acting) normal) (goodFrame (d .counters)) (d .counters)
 
   on-wire : (e : Event) (payload : List ℕ) → Counts (wire e payload) (step d (wire e payload))
   unfolding echoed sent countedCompletion arrived raised

@@ -23,7 +23,7 @@ use Rattle.events.specs.declared.Event.the-variants.{GoodFrame, ReceiveError, D
 use Rattle.events.specs.declared.Event.the-variants.{BusQuiet, BusActivity, Ticks, TxenPin, MasterReset, Unknown}
 use Rattle.judged.specs.declared.Answer.the-variants.{Done, Arrived}
 use Rattle.judged.specs.Judged.{impossible, runs}
-use Rattle.changed.specs.Changed.{after, reachesBuffer, frameAfter, heard, echoed, errorReceived, dominantMet, errorSent, recessiveMet, ticked, pinSet}
+use Rattle.changed.specs.Changed.{after, reachesTemporary, frameAfter, heard, echoed, receiveErrorMet, dominantMet, transmitErrorMet, recessiveMet, ticked, pinSet}
 use Rattle.promise.specs.Meaning.{means}
 use Rattle.promise.specs.Sequence.{wire, Given, answered, shipped as step}
 use Rattle.promise.specs.Sums.{done, resetMet}
@@ -71,7 +71,7 @@ module _ (d : Device) where
         after .regs .intf ≡ pick (ok && resetMet e) 0 (together (d .regs .intf) (pick ok (occurred e given after) []))
 
     after-rises : (e : Event) → Wired e true (answered Done) (after d e)
-    unfolding after errorReceived busError raised dominantMet errorSent stopped begun sent recessiveMet ticked pinSet reset fresh
+    unfolding after receiveErrorMet busError raised dominantMet transmitErrorMet stopped begun sent recessiveMet ticked pinSet reset fresh
     after-rises (GoodFrame h acknowledged n) = stays (d .regs .intf)
     after-rises (ReceiveError kind) = stays (bitOr (d .regs .intf) buserr)
     after-rises DominantBit = pick-keeps (Rises []) (eqb (d .acting) monitor) d _ (stays (d .regs .intf)) (stays (d .regs .intf))
@@ -98,9 +98,9 @@ module _ (d : Device) where
     framed-rises : (h : Header) (acknowledged : Bool) (n : ℕ) (what : Arrival) → impossible d (GoodFrame h acknowledged n) ≡ false
         → Wired (GoodFrame h acknowledged n) true (answered (Arrived what)) (frameAfter d h payload what)
     unfolding frameAfter impossible
-    framed-rises h acknowledged n what possible = rw possible (frame-cases h what (reachesBuffer what))
+    framed-rises h acknowledged n what possible = rw possible (frame-cases h what (reachesTemporary what))
 
-    echo-rises : (what : Arrival) → impossible d Completed ≡ false → eqb (d .acting) loopback ≡ true → reachesBuffer what ≡ true
+    echo-rises : (what : Arrival) → impossible d Completed ≡ false → eqb (d .acting) loopback ≡ true → reachesTemporary what ≡ true
         → Wired Completed true (answered (Arrived what)) (echoed d what)
     unfolding echoed sent arrived raised impossible
     echo-rises what possible back taken =

@@ -22,7 +22,7 @@ use Rattle.events.specs.declared.Event.{Event}
 use Rattle.events.specs.declared.Event.the-variants.{GoodFrame, ReceiveError, DominantBit, TransmitError, Begun, Completed, ArbitrationLost, ElevenRecessive}
 use Rattle.events.specs.declared.Event.the-variants.{BusQuiet, BusActivity, Ticks, TxenPin, MasterReset, Unknown}
 use Rattle.judged.specs.Judged.{impossible}
-use Rattle.changed.specs.Changed.{reachesBuffer, heard, frameAfter, errorReceived, dominantMet, errorSent, echoed, recessiveMet, ticked, pinSet, after}
+use Rattle.changed.specs.Changed.{reachesTemporary, heard, frameAfter, receiveErrorMet, dominantMet, transmitErrorMet, echoed, recessiveMet, ticked, pinSet, after}
 use Rattle.commands.specs.declared.Found.the-variants.{At}
 use Rattle.commands.specs.declared.Row.{Row}
 use Rattle.commands.specs.Table.{rows, lookup}
@@ -60,7 +60,7 @@ module _ (d : Device) where
 
   frame-same : (header : Header) (payload : List ℕ) (what : Arrival) → outgoing (frameAfter d header payload what) ≡ outgoing d
   unfolding frameAfter heard arrived raised
-  frame-same header payload what = pick-keeps (λ e. outgoing e ≡ outgoing d) (reachesBuffer what) _ _ refl activity-same
+  frame-same header payload what = pick-keeps (λ e. outgoing e ≡ outgoing d) (reachesTemporary what) _ _ refl activity-same
 
 module _ (d : Device) (o : Outbox) (h : Held d o) where
   -- ---- a transfer that is done
@@ -131,7 +131,7 @@ module _ (d : Device) (o : Outbox) (h : Held d o) where
   echoed-held what = sent-held _ o (arrived-held _ _ what)
 
   after-held : (e : Event) → impossible d e ≡ false → Held (after d e) (pick (resetMet e) emptied (happened o e))
-  unfolding after impossible errorReceived errorSent stopped busError raised recessiveMet ticked pinSet reset fresh
+  unfolding after impossible receiveErrorMet transmitErrorMet stopped busError raised recessiveMet ticked pinSet reset fresh
   after-held (GoodFrame header acknowledged n) possible = h
   after-held (ReceiveError kind) possible = same-held d o h _ refl
   after-held DominantBit possible = same-held d o h _ (dominant-same d)

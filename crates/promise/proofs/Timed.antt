@@ -18,7 +18,7 @@ use Rattle.receive.specs.Receive.{arrived}
 use Rattle.events.specs.declared.Event.{Event}
 use Rattle.events.specs.declared.Event.the-variants.{GoodFrame, ReceiveError, DominantBit, TransmitError, Begun, Completed, ArbitrationLost, ElevenRecessive}
 use Rattle.events.specs.declared.Event.the-variants.{BusQuiet, BusActivity, Ticks, TxenPin, MasterReset, Unknown}
-use Rattle.changed.specs.Changed.{after, reachesBuffer, frameAfter, heard, echoed, errorReceived, dominantMet, errorSent, recessiveMet, ticked as tickedOn, pinSet}
+use Rattle.changed.specs.Changed.{after, reachesTemporary, frameAfter, heard, echoed, receiveErrorMet, dominantMet, transmitErrorMet, recessiveMet, ticked as tickedOn, pinSet}
 use Rattle.commands.specs.Verbs.{resetTime, masterReset, writeCtrl0 as writesCtrl0}
 use Rattle.promise.specs.Promises.{TheTimeTagIsTheTicks}
 use Rattle.promise.specs.Sequence.{Input, spi, wire, Step, shipped as step}
@@ -48,7 +48,7 @@ module _ (d : Device) (t : ℕ) (same : d .time ≡ t % 65536) where
       (λ v none. rw (none resetTime refl, none masterReset refl, none writesCtrl0 refl) same)
 
   after-time : (e : Event) → after d e .time ≡ pick (resetMet e) 0 (ticksAfter t e) % 65536
-  unfolding after errorReceived busError raised dominantMet errorSent stopped begun sent recessiveMet tickedOn pinSet reset fresh
+  unfolding after receiveErrorMet busError raised dominantMet transmitErrorMet stopped begun sent recessiveMet tickedOn pinSet reset fresh
   after-time (GoodFrame h acknowledged n) = same
   after-time (ReceiveError kind) = same
   after-time DominantBit = pick-keeps (λ (e : Device). e .time ≡ t % 65536) (eqb (d .acting) monitor) d _ same same
@@ -67,7 +67,7 @@ module _ (d : Device) (t : ℕ) (same : d .time ≡ t % 65536) where
   frame-time : (h : Header) (payload : List ℕ) (what : Arrival) → frameAfter d h payload what .time ≡ t % 65536
   unfolding frameAfter heard arrived raised
   frame-time h payload what =
-      pick-keeps (λ (e : Device). e .time ≡ t % 65536) (reachesBuffer what) _ _ same (ap (λ x. x .0) (activity-unmoved d) ∙ same)
+      pick-keeps (λ (e : Device). e .time ≡ t % 65536) (reachesTemporary what) _ _ same (ap (λ x. x .0) (activity-unmoved d) ∙ same)
 
   on-wire : (e : Event) (payload : List ℕ) → Timely (wire e payload) (step d (wire e payload))
   unfolding echoed sent arrived raised

@@ -17,7 +17,7 @@ use Rattle.events.specs.declared.Event.{Event}
 use Rattle.events.specs.declared.Event.the-variants.{GoodFrame, ReceiveError, DominantBit, TransmitError, Begun, Completed, ArbitrationLost, ElevenRecessive}
 use Rattle.events.specs.declared.Event.the-variants.{BusQuiet, BusActivity, Ticks, TxenPin, MasterReset, Unknown}
 use Rattle.judged.specs.declared.Answer.the-variants.{Refused, Done, Arrived}
-use Rattle.changed.specs.Changed.{reachesBuffer}
+use Rattle.changed.specs.Changed.{reachesTemporary}
 use Rattle.commands.specs.Verbs.{readIntf}
 use Rattle.promise.specs.Meaning.{Meaning, frame, reading, clearing, other, means}
 use Rattle.promise.specs.Sequence.{Input, spi, wire, Given, replied, answered, Step, Machine, run, along}
@@ -31,7 +31,7 @@ filterFlags Nothing = []
 -- RXTMP for a frame that reaches the temporary buffer, RXFIFO for one that is queued
 abbrev pub arrivalFlags : Hit → Arrival → List ℕ
 arrivalFlags found what =
-    pick (reachesBuffer what) (rxtmp ∷ (pick (isQueued what) (rxfifo ∷ []) [] ++ filterFlags found)) []
+    pick (reachesTemporary what) (rxtmp ∷ (pick (isQueued what) (rxfifo ∷ []) [] ++ filterFlags found)) []
 
 abbrev pub frameHit : Device → Meaning → Hit
 frameHit d (frame h payload earlier) = hit d h payload

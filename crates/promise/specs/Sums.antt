@@ -16,7 +16,7 @@ use Rattle.events.specs.declared.Event.{Event}
 use Rattle.events.specs.declared.Event.the-variants.{GoodFrame, ReceiveError, DominantBit, TransmitError, Begun, Completed, ArbitrationLost, ElevenRecessive}
 use Rattle.events.specs.declared.Event.the-variants.{BusQuiet, BusActivity, Ticks, TxenPin, MasterReset, Unknown}
 use Rattle.judged.specs.declared.Answer.the-variants.{Refused, Done, Arrived}
-use Rattle.changed.specs.Changed.{errBit, reachesBuffer}
+use Rattle.changed.specs.Changed.{errBit, reachesTemporary}
 use Rattle.commands.specs.Verbs.{readErr, masterReset, resetTime, writeCtrl0, writeRec, writeTec}
 use Rattle.promise.specs.Numbers.{command}
 use Rattle.promise.specs.Sequence.{Input, spi, wire, Given, replied, answered, Machine, number, run, along}
@@ -59,7 +59,7 @@ abbrev pub lowersRec : ℕ → Given → Bool
 lowersRec acting (replied n buffer) = false
 lowersRec acting (answered (Refused n)) = false
 lowersRec acting (answered Done) = false
-lowersRec acting (answered (Arrived what)) = eqb acting normal && reachesBuffer what
+lowersRec acting (answered (Arrived what)) = eqb acting normal && reachesTemporary what
 
 -- the rule of an event that was not refused
 abbrev pub countedEvent : ℕ → Bool → Counters → Event → Given → Counters

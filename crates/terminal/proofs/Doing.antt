@@ -33,7 +33,7 @@ use Rattle.events.specs.declared.Event.the-variants.{GoodFrame}
 use Rattle.judged.specs.declared.Answer.{Answer}
 use Rattle.judged.specs.declared.Answer.the-variants.{Arrived}
 use Rattle.judged.specs.Judged.{impossible, impossibleFrame, quietMode, takesNoFrames, unacknowledged, reason, said}
-use Rattle.changed.specs.Changed.{countedFrame, heard, reachesBuffer, frameAfter, arrival}
+use Rattle.changed.specs.Changed.{countedFrame, heard, reachesTemporary, frameAfter, arrival}
 use Rattle.shown.specs.Shown.{register, shows}
 use Rattle.done.specs.Done.{registersAfter, registerChanged, messageTaken, does}
 use Rattle.host.specs.Transfer.{outcome, transfer, replyAfter}
@@ -116,7 +116,7 @@ module _ (d : Device) (in-range : proper d ≡ true) (listens : Listens d) (few 
   answer-is = rw (in-range, listens .acts, listens .on, listens .unfiltered, lt-leb 8 (d .rx .count) few)
 
   brought-is : brought d scan ≡ heard d scanner scan Queued
-  unfolding event arrival frameAfter reachesBuffer
+  unfolding event arrival frameAfter reachesTemporary
   brought-is = ap (λ (a : Answer). busOutcome d (GoodFrame scanner true 8) scan a .device) answer-is
 
   heard-listens : Listens (heard d scanner scan Queued)
