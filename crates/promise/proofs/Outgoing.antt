@@ -31,7 +31,7 @@ use Rattle.refused.specs.Refused.{findsFull}
 use Rattle.done.specs.Done.{registerChanged, messageTaken, entryTaken, receiveCleared, timeReset, filterWritten, maskWritten, recWritten, tecWritten, deeds, does}
 use Rattle.promise.specs.Promises.{OwnMessagesAreThoseWritten}
 use Rattle.promise.specs.Sequence.{Input, spi, wire, Step, shipped as step, number, run}
-use Rattle.promise.specs.Numbers.{row, lowest}
+use Rattle.promise.specs.Numbers.{row, firstSaying}
 use Rattle.promise.specs.Sums.{resetMet}
 use Rattle.promise.specs.Outbox.{Outbox, emptied, halted, orphaned, brought, commanded, happened, outboxAfter, outbox}
 use Rattle.promise.proofs.Among.{_and_, among-keeps, none-of}
@@ -105,7 +105,7 @@ module _ (d : Device) (o : Outbox) (h : Held d o) where
         ) (leaves _ refl refl))
 
   -- it has a command byte, and 0x12 found room: neither 3 nor 6 was given
-  done-held : (bytes buffer : List ℕ) (r : Row) → lookup rows (byte bytes 1) ≡ At r → lowest (row d (spi bytes buffer)) ≡ 0
+  done-held : (bytes buffer : List ℕ) (r : Row) → lookup rows (byte bytes 1) ≡ At r → firstSaying (row d (spi bytes buffer)) ≡ 0
       → Held (does d (r .verb) (r .index) bytes) (commanded o bytes (d .acting) (does d (r .verb) (r .index) bytes .acting))
   unfolding Holds
   done-held bytes buffer r at done =

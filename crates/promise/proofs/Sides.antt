@@ -41,7 +41,7 @@ use Rattle.shown.specs.Shown
 use Rattle.done.specs.Done
 use Rattle.host.specs.Transfer
 use Rattle.promise.specs.Sequence.{Input, spi, wire, Given, replied, answered, Machine, shipped, number, run}
-use Rattle.promise.specs.Numbers.{row, lowest, said, numberGiven, Refused}
+use Rattle.promise.specs.Numbers.{row, firstSaying, valuesGiven, numberGiven, Refused}
 use Rattle.promise.specs.Meaning.{Meaning, frame, reading, clearing, other, means}
 use Rattle.promise.specs.Ledger.{Ledger, left, oldest, fields, due, hidden, buffered, Answers, ledger}
 use Rattle.promise.specs.Outbox.{Running, none, first, orphan, outbox}
@@ -78,7 +78,7 @@ wholeSides w is = (allBytes (ledger w is .taken ++ waiting (run w fresh is .rx))
 
 abbrev pub numbers : Given → List ℕ
 numbers (replied n buffer) = n ∷ buffer
-numbers (answered a) = number (answered a) ∷ said (answered a)
+numbers (answered a) = number (answered a) ∷ valuesGiven (answered a)
 
 -- what is given where nothing is to be said
 abbrev pub silent : Given → List ℕ
@@ -92,7 +92,7 @@ numbersDue d l buffer (reading verb) given = numbers (pick (eqb (left l) 0) (rep
 numbersDue d l buffer clearing given = number given ∷ silent given
 numbersDue d l buffer other given = number given ∷ silent given
 
-says-nothing : (given : Given) → said given ≡ [] → numbers given ≡ number given ∷ silent given
+says-nothing : (given : Given) → valuesGiven given ≡ [] → numbers given ≡ number given ∷ silent given
 says-nothing (replied n buffer) is = refl
 says-nothing (answered a) is = ap (λ l. number (answered a) ∷ l) is
 
@@ -210,7 +210,7 @@ sides =
     countedSides madeUpRec (normal ∷ wire (ReceiveError Bit) [] ∷ []) ∷
     countedSides madeUpTec (spi (0x26 ∷ 0x05 ∷ []) [] ∷ []) ∷
     countedSides madeUpGroups busOff ∷
-    (numberGiven refusesAll fresh readCtrl0 ∷ [], lowest (row fresh readCtrl0) ∷ []) ∷
+    (numberGiven refusesAll fresh readCtrl0 ∷ [], firstSaying (row fresh readCtrl0) ∷ []) ∷
     (run changesNothing fresh (wire (Ticks 1) [] ∷ []) .time ∷ [], ticks changesNothing (wire (Ticks 1) [] ∷ []) % 65536 ∷ []) ∷
     (run errCleared fresh errorThenReset .regs .errs ∷ [], kindBits (seen errCleared errorThenReset) ∷ []) ∷
     (run intfKept fresh errorThenReset .regs .intf ∷ [], together 0 (flags intfKept errorThenReset) ∷ []) ∷

@@ -29,7 +29,7 @@ use Rattle.shown.specs.Shown.{shows}
 use Rattle.done.specs.Done.{registerChanged, messageTaken, entryTaken, receiveCleared, timeReset, messageWritten, filterWritten, maskWritten, recWritten, tecWritten}
 use Rattle.done.specs.Done.{deeds, does}
 use Rattle.promise.specs.Sequence.{spi, replied, Step, shipped as step, number}
-use Rattle.promise.specs.Numbers.{row, lowest}
+use Rattle.promise.specs.Numbers.{row, firstSaying}
 use Rattle.promise.specs.Meaning.{Meaning, frame, reading, clearing, other, meanings, commandMeans, means}
 use Rattle.promise.specs.Ledger.{Ledger, hidden}
 use Rattle.promise.proofs.Among.{_and_, among-keeps, among-outside}
@@ -84,7 +84,7 @@ module _ (d : Device) (l : Ledger) (h : Kept d l) (bytes buffer : List ℕ) wher
         and tt)
         (λ out is. left-alone)
 
-    refused-agrees : (f : Found) → lookup rows (byte bytes 1) ≡ f → n ≡ lowest (row d (spi bytes buffer))
+    refused-agrees : (f : Found) → lookup rows (byte bytes 1) ≡ f → n ≡ firstSaying (row d (spi bytes buffer))
         → Agrees d l buffer (commandMeans f bytes (length buffer)) (refusedTransfer d n buffer)
     unfolding Refusal
     refused-agrees Nothing at is = left-alone
@@ -177,7 +177,7 @@ module _ (d : Device) (l : Ledger) (h : Kept d l) (bytes buffer : List ℕ) wher
         and tt)
         (λ out. doing-other verb (rw (among-outside verb (meanings bytes) (meanings bytes) other out refl) at (does-queue verb)))
 
-  module _ (r : Row) (at : lookup rows (byte bytes 1) ≡ At r) (done : lowest (row d (spi bytes buffer)) ≡ 0) where
+  module _ (r : Row) (at : lookup rows (byte bytes 1) ≡ At r) (done : firstSaying (row d (spi bytes buffer)) ≡ 0) where
     unsaid : (n : ℕ) → 0 < n → n ≤ 8 → row d (spi bytes buffer) n ≡ false
     unsaid n above below = lowest-none (row d (spi bytes buffer)) 8 1 n (omega arith) done above (omega arith)
 

@@ -28,7 +28,7 @@ use Rattle.commands.specs.Table.{rows, lookup}
 use Rattle.refused.specs.Refused.{readsMessage}
 use Rattle.host.specs.Transfer.{replyAfter}
 use Rattle.promise.specs.Sequence.{Input, spi, wire, Given, replied, answered, Step, Machine, shipped, number}
-use Rattle.promise.specs.Numbers.{command, said}
+use Rattle.promise.specs.Numbers.{command, valuesGiven}
 use Rattle.promise.specs.Ledger.{saysQueued}
 use Rattle.promise.specs.Interrupts.{ownFlags}
 use Rattle.promise.specs.Sums.{done, resetAsked}
@@ -58,7 +58,7 @@ leisurely = but (λ d i s. pick (saysQueued (s .given) && isSet 0 (d .time)) (wi
 
 -- 01: "The room test is made before the filters, so a stranger's frame is answered A5."
 abbrev pub roomFirst : Machine
-roomFirst = but (λ d i s. pick (full (d .rx) && eqb (byte (said (s .given)) 1) 4) (with-given s (answered (Arrived A5))) s)
+roomFirst = but (λ d i s. pick (full (d .rx) && eqb (byte (valuesGiven (s .given)) 1) 4) (with-given s (answered (Arrived A5))) s)
 
 -- a read that takes two messages
 abbrev pub takesTwo : Machine
