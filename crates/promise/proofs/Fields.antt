@@ -35,7 +35,7 @@ use Rattle.refused.specs.Refused.{lengthFits}
 use Rattle.promise.specs.Sequence.{Input, spi, wire, Step, shipped as step, run}
 use Rattle.promise.specs.Meaning.{clearing, other, meanings, commandMeans, means}
 use Rattle.promise.specs.Ledger.{Shows, Truly, hidden}
-use Rattle.promise.specs.Outbox.{Running, none, first, orphan, Outbox, emptied, halted, orphaned, brought, remaining, commanded, happened, outboxAfter, outbox}
+use Rattle.promise.specs.Outbox.{Running, none, first, alone, Outbox, emptied, halted, aloneAfter, brought, remaining, commanded, happened, outboxAfter, outbox}
 use Rattle.promise.specs.Outbox.{Runs}
 use Rattle.promise.specs.Promises.{FieldsStandAsTheyArrived}
 use Rattle.promise.specs.Sums.{done, asks, resetAsked, resetMet}
@@ -86,7 +86,7 @@ stored-headed m = header-possible (stored m) (omega arith) (omega arith) (omega 
 abbrev RunningHeaded : Running → Type 0
 RunningHeaded none = Unit {0}
 RunningHeaded (first m) = Headed m
-RunningHeaded (orphan m) = Headed m
+RunningHeaded (alone m) = Headed m
 
 -- every message of an outbox
 abbrev BoxHeaded : Outbox → Type 0
@@ -102,27 +102,27 @@ rest-headed : (ms : List Message) → Each Headed ms → Each Headed (drop 1 ms)
 rest-headed [] all = tt
 rest-headed (m ∷ ms) all = all .1
 
-orphaned-headed : (r : Running) → RunningHeaded r → RunningHeaded (orphaned r)
-orphaned-headed none h = tt
-orphaned-headed (first m) h = h
-orphaned-headed (orphan m) h = h
+alone-headed : (r : Running) → RunningHeaded r → RunningHeaded (aloneAfter r)
+alone-headed none h = tt
+alone-headed (first m) h = h
+alone-headed (alone m) h = h
 
 remaining-headed : (ms : List Message) (r : Running) → Each Headed ms → Each Headed (remaining ms r)
 remaining-headed ms none all = all
 remaining-headed ms (first m) all = rest-headed ms all
-remaining-headed ms (orphan m) all = all
+remaining-headed ms (alone m) all = all
 
 module _ (o : Outbox) (h : BoxHeaded o) where
   -- by whether a transfer resets, clears, aborts, writes, or leaves the mode
   by-deed : (resets clears aborts writes same : Bool) (m : Message) → Headed m
       → BoxHeaded
       (pick resets emptied
-      (pick clears (record { queue = []; running = orphaned (o .running) })
+      (pick clears (record { queue = []; running = aloneAfter (o .running) })
       (pick aborts (halted o)
       (pick writes (record { queue = o .queue ++ (m ∷ []); running = o .running })
       (pick same o (halted o))))))
   by-deed true clears aborts writes same m headed = (tt, tt)
-  by-deed false true aborts writes same m headed = (tt, orphaned-headed (o .running) (h .1))
+  by-deed false true aborts writes same m headed = (tt, alone-headed (o .running) (h .1))
   by-deed false false true writes same m headed = (h .0, tt)
   by-deed false false false true same m headed = (each-more Headed (o .queue) m (h .0) headed, h .1)
   by-deed false false false false true m headed = h
@@ -164,7 +164,7 @@ buffer-headed : (d : Device) (r : Running) → Runs d r → RunningHeaded r → 
 unfolding runs
 buffer-headed d none is headed some = absurd (false≢true (rw is at some))
 buffer-headed d (first m) is headed some = rw (is .1) headed
-buffer-headed d (orphan m) is headed some = rw (is .1) headed
+buffer-headed d (alone m) is headed some = rw (is .1) headed
 
 -- ---- the promise
 

@@ -20,7 +20,7 @@ use Rattle.flags.specs.Reset.{reset}
 use Rattle.transmit.specs.Transmit.{canBegin, begun, stopped, cleared, leftAlone, fifoAfter, sent}
 use Rattle.modes.specs.Modes.{changed, writeCtrl0}
 use Rattle.done.specs.Done.{messageWritten}
-use Rattle.promise.specs.Outbox.{Running, none, first, orphan, Outbox, emptied, halted, orphaned, brought, remaining, Runs}
+use Rattle.promise.specs.Outbox.{Running, none, first, alone, Outbox, emptied, halted, aloneAfter, brought, remaining, Runs}
 use Rattle.promise.proofs.Choices.{pick-keeps, pick-under}
 use Rattle.promise.proofs.Fits.{some-wait}
 use Rattle.promise.proofs.Kept.{taken-items, put-items}
@@ -54,14 +54,14 @@ module _ (d : Device) where
   runs-on : (e : Device) (r : Running) → e .sending ≡ d .sending → e .buffer ≡ d .buffer → Runs d r → Runs e r
   runs-on e none sending buffer runs = sending ∙ runs
   runs-on e (first m) sending buffer runs = (sending ∙ runs .0, buffer ∙ runs .1)
-  runs-on e (orphan m) sending buffer runs = (sending ∙ runs .0, buffer ∙ runs .1)
+  runs-on e (alone m) sending buffer runs = (sending ∙ runs .0, buffer ∙ runs .1)
 
   -- 0x54 leaves it alone
-  cleared-runs : (r : Running) → Runs d r → Runs (cleared d) (orphaned r)
+  cleared-runs : (r : Running) → Runs d r → Runs (cleared d) (aloneAfter r)
   unfolding cleared leftAlone
   cleared-runs none runs = rw runs
   cleared-runs (first m) runs = (rw (runs .0), runs .1)
-  cleared-runs (orphan m) runs = (rw (runs .0), runs .1)
+  cleared-runs (alone m) runs = (rw (runs .0), runs .1)
 
 -- ---- each change
 
@@ -97,7 +97,7 @@ module _ (d : Device) (o : Outbox) (h : Held d o) where
       (λ same. onward-held _ refl refl)
       (λ new. rw (ne-eqb (d .acting) (modeOf v) (λ same. eqb-false (modeOf v) (d .acting) new (sym same))) (stopped-held _ refl refl)))))
 
-  pub cleared-held : Held (cleared d) (record { queue = []; running = orphaned (o .running) })
+  pub cleared-held : Held (cleared d) (record { queue = []; running = aloneAfter (o .running) })
   unfolding cleared empty
   cleared-held = record { places = refl; queued = refl; runs = cleared-runs d (o .running) (h .runs) }
 
@@ -126,7 +126,7 @@ module _ (d : Device) (o : Outbox) (h : Held d o) where
   unfolding fifoAfter
   sent-queue none runs = rw runs (h .queued)
   sent-queue (first m) runs = rw (runs .0) (taken-waits (d .tx) ∙ ap (drop 1) (h .queued))
-  sent-queue (orphan m) runs = rw (runs .0) (h .queued)
+  sent-queue (alone m) runs = rw (runs .0) (h .queued)
 
   pub sent-held : Held (sent d) (record { queue = remaining (o .queue) (o .running); running = none })
   unfolding sent raised fifoAfter

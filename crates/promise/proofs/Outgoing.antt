@@ -33,7 +33,7 @@ use Rattle.promise.specs.Promises.{OwnMessagesAreThoseWritten}
 use Rattle.promise.specs.Sequence.{Input, spi, wire, Step, shipped as step, number, run}
 use Rattle.promise.specs.Numbers.{row, firstSaying}
 use Rattle.promise.specs.Sums.{resetMet}
-use Rattle.promise.specs.Outbox.{Outbox, emptied, halted, orphaned, brought, commanded, happened, outboxAfter, outbox}
+use Rattle.promise.specs.Outbox.{Outbox, emptied, halted, aloneAfter, brought, commanded, happened, outboxAfter, outbox}
 use Rattle.promise.proofs.Among.{_and_, among-keeps, none-of}
 use Rattle.promise.proofs.Choices.{pick-keeps, or-left}
 use Rattle.promise.proofs.Steps.{keeps, by-transfer}
@@ -70,7 +70,7 @@ module _ (d : Device) (o : Outbox) (h : Held d o) where
     abbrev commandedFor : ℕ → ℕ → Outbox
     commandedFor verb acting =
         pick (eqb verb masterReset || (eqb verb writesCtrl0 && resetBit (byte bytes 2))) emptied
-        (pick (eqb verb clearTransmit) (record { queue = []; running = orphaned (o .running) })
+        (pick (eqb verb clearTransmit) (record { queue = []; running = aloneAfter (o .running) })
         (pick (eqb verb abortTransmission) (halted o)
         (pick (eqb verb writeMessage) (record { queue = o .queue ++ (brought bytes ∷ []); running = o .running })
         (onward o (d .acting) acting))))

@@ -44,7 +44,7 @@ use Rattle.promise.specs.Sequence.{Input, spi, wire, Given, replied, ans
 use Rattle.promise.specs.Numbers.{row, firstSaying, valuesGiven, numberGiven, Refused}
 use Rattle.promise.specs.Meaning.{Meaning, frame, reading, clearing, other, means}
 use Rattle.promise.specs.Ledger.{Ledger, left, oldest, fields, due, hidden, buffered, Answers, ledger}
-use Rattle.promise.specs.Outbox.{Running, none, first, orphan, outbox}
+use Rattle.promise.specs.Outbox.{Running, none, first, alone, outbox}
 use Rattle.promise.specs.Readings.{readout}
 use Rattle.promise.specs.Sums.{sum, ticks, seen, kindBits}
 use Rattle.promise.specs.Interrupts.{flags, together}
@@ -118,12 +118,12 @@ countedSides w is = (counts (run w fresh is .counters), counts (sum w is))
 abbrev pub runs : Device → Running → List ℕ
 runs d none = []
 runs d (first m) = d .buffer .bytes
-runs d (orphan m) = d .buffer .bytes
+runs d (alone m) = d .buffer .bytes
 
 abbrev pub runningBytes : Running → List ℕ
 runningBytes none = []
 runningBytes (first m) = m .bytes
-runningBytes (orphan m) = m .bytes
+runningBytes (alone m) = m .bytes
 
 -- the messages that wait to be sent, and the transmit buffer while one runs
 abbrev pub sentSides : Machine → List Input → Sides
@@ -182,8 +182,8 @@ abbrev pub busOff : List Input
 busOff = spi (0x26 ∷ 0xFF ∷ []) [] ∷ begun ++ wire (TransmitError Bit true) [] ∷ wire ElevenRecessive [] ∷ []
 
 -- the FIFO emptied, another message written, and the first one completed
-abbrev pub orphaned : List Input
-orphaned = begun ++ spi (0x54 ∷ []) [] ∷ spi (0x12 ∷ 0x08 ∷ 0x24 ∷ 0x60 ∷ 0x00 ∷ []) [] ∷ wire Completed [] ∷ []
+abbrev pub completedAlone : List Input
+completedAlone = begun ++ spi (0x54 ∷ []) [] ∷ spi (0x12 ∷ 0x08 ∷ 0x24 ∷ 0x60 ∷ 0x00 ∷ []) [] ∷ wire Completed [] ∷ []
 
 abbrev pub errorThenReset : List Input
 errorThenReset = normal ∷ wire (ReceiveError Bit) [] ∷ spi (0x56 ∷ []) [] ∷ []
@@ -203,7 +203,7 @@ sides =
     dueSides repliesZeros two read ∷
     dueSides ghost (normal ∷ []) (wire BusQuiet []) ∷
     wholeSides codeClipped (normal ∷ long ∷ []) ∷
-    sentSides oldCompletion orphaned ∷
+    sentSides oldCompletion completedAlone ∷
     sentSides nothingCopied begun ∷
     readSides blind (normal ∷ wire (ReceiveError Bit) [] ∷ []) (0xEA ∷ []) readRec ∷
     readSides clearsFirst (normal ∷ wire (ReceiveError Bit) [] ∷ []) (0xDE ∷ []) readIntf ∷

@@ -10,7 +10,8 @@ use Rattle.fifo.specs.declared.Message.{Message}
 use Rattle.fifo.specs.Queue.{absent, waiting}
 use Rattle.sent.specs.Sent.{messageOf, stored}
 use Rattle.chip.specs.declared.Device.{Device}
-use Rattle.chip.specs.State.{fresh, idle, firstInFifo, alone}
+use Rattle.chip.specs.State.{fresh, idle, firstInFifo}
+use Rattle.chip.specs.State as State
 use Rattle.events.specs.declared.Event.{Event}
 use Rattle.events.specs.declared.Event.the-variants.{GoodFrame, ReceiveError, DominantBit, TransmitError, Begun, Completed, ArbitrationLost, ElevenRecessive}
 use Rattle.events.specs.declared.Event.the-variants.{BusQuiet, BusActivity, Ticks, TxenPin, MasterReset, Unknown}
@@ -23,7 +24,7 @@ pub data Running : Type 0 where
   -- the first of those that wait
   first : Message → Running
   -- one that 0x54 left alone
-  orphan : Message → Running
+  alone : Message → Running
 
 pub record Outbox : Type 0 where
   pub queue : List Message
@@ -36,10 +37,10 @@ abbrev pub halted : Outbox → Outbox
 halted o = record { queue = o .queue; running = none }
 
 -- "0x54 empties the FIFO, and the current message may still complete"
-abbrev pub orphaned : Running → Running
-orphaned none = none
-orphaned (first m) = orphan m
-orphaned (orphan m) = orphan m
+abbrev pub aloneAfter : Running → Running
+aloneAfter none = none
+aloneAfter (first m) = alone m
+aloneAfter (alone m) = alone m
 
 -- the message of 0x12, as it is kept
 abbrev pub brought : List ℕ → Message
@@ -49,7 +50,7 @@ brought bytes = record { bytes = stored (messageOf (drop 1 bytes) .message) }
 abbrev pub commanded : Outbox → List ℕ → ℕ → ℕ → Outbox
 commanded o bytes before after =
     pick (resetAsked bytes) emptied
-    (pick (asks clearTransmit bytes) (record { queue = []; running = orphaned (o .running) })
+    (pick (asks clearTransmit bytes) (record { queue = []; running = aloneAfter (o .running) })
     (pick (asks abortTransmission bytes) (halted o)
     (pick (asks writeMessage bytes) (record { queue = o .queue ++ (brought bytes ∷ []); running = o .running })
     (pick (eqb before after) o (halted o)))))
@@ -58,7 +59,7 @@ commanded o bytes before after =
 abbrev pub remaining : List Message → Running → List Message
 remaining queue none = queue
 remaining queue (first m) = drop 1 queue
-remaining queue (orphan m) = queue
+remaining queue (alone m) = queue
 
 -- an event that was done, if it is no master reset
 abbrev pub happened : Outbox → Event → Outbox
@@ -88,7 +89,7 @@ outbox step = along step (λ d o i. outboxAfter d o i (step d i)) fresh emptied
 abbrev pub Runs : Device → Running → Type 0
 Runs d none = d .sending ≡ idle
 Runs d (first m) = (d .sending ≡ firstInFifo) × (d .buffer ≡ m)
-Runs d (orphan m) = (d .sending ≡ alone) × (d .buffer ≡ m)
+Runs d (alone m) = (d .sending ≡ State.alone) × (d .buffer ≡ m)
 
 abbrev pub Sent : Machine → Type 0
 Sent step = (is : List Input)
