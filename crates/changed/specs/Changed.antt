@@ -37,6 +37,7 @@ errBit Bit = 16
 unfoldable pub countedFrame : Counters → ℕ → Counters
 countedFrame c acting = pick (eqb acting normal) (goodFrame c) c
 
+-- "A4, A5 and Queued put the frame there", and REC moves
 unfoldable pub heard : Device → Header → List ℕ → Arrival → Device
 heard d h bytes what = with-counters (arrived d h bytes what) (countedFrame (d .counters) (d .acting))
 
@@ -69,7 +70,7 @@ dominantMet d = unlessMonitor (d .acting) d (with-counters d (dominantBit (d .co
 unfoldable pub countedTransmitError : Counters → ℕ → Bool → Counters
 countedTransmitError c acting counted = pick counted (unlessMonitor acting c (transmitError c)) c
 
--- an error leaves the message first in the FIFO, to be sent again
+-- "abort, an error or lost arbitration leaves it first in the FIFO; one-shot then doesn't send it again until enabled"
 unfoldable pub transmitErrorMet : Device → ErrorKind → Bool → Device
 transmitErrorMet d kind counted =
     stopped (with-counters (busError d (errBit kind)) (countedTransmitError (d .counters) (d .acting) counted))
@@ -78,6 +79,7 @@ transmitErrorMet d kind counted =
 unfoldable pub echoed : Device → Arrival → Device
 echoed d what = sent (arrived d (headerIn (d .buffer .bytes)) (dataIn (d .buffer .bytes)) what)
 
+-- "The 128th group of eleven recessive bits ends bus off, both counters at 0, under 000's rule for automatic recovery."
 unfoldable pub recessiveMet : Device → Device
 recessiveMet d = with-counters d (elevenRecessive (d .counters) (bor d))
 
@@ -85,6 +87,7 @@ recessiveMet d = with-counters d (elevenRecessive (d .counters) (bor d))
 unfoldable pub ticked : Device → ℕ → Device
 ticked d count = with-time d ((d .time + count) % 65536)
 
+-- "TXEN pin and its level"
 unfoldable pub pinSet : Device → Bool → Device
 pinSet d level = with-txenpin d level
 

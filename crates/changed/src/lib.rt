@@ -60,7 +60,8 @@ fn reaches_temporary(what: Arrival) -> bool
     }
 }
 
-// A good frame, by what became of it. One that isn't taken is still activity on the bus, and wakes a sleeping device.
+// A good frame, by what became of it. One that isn't taken is still activity on the bus, and wakes a sleeping device if
+// WAKEUP is set.
 fn frame_after(d: Device, h: Header, payload: [u8; 8], what: Arrival) -> Device
     ensures { λ r. ⌜ r ≡ frameAfter d h payload what ⌝ }
 {

@@ -121,7 +121,7 @@ pub fn mode_of(ctrl0: u8) -> u8
     }
 }
 
-// Whether a message may be begun, for all that the host and the TXEN pin say.
+// Whether transmission is enabled: by TXEN, TX1M or the TXEN pin.
 pub fn enabled(d: Device) -> bool
     ensures { λ r. ⌜ r ≡ enabled d ⌝ }
 {
@@ -204,7 +204,7 @@ fn acting_in_range(d: Device) -> bool
     }
 }
 
-// Whether every count, place and field is one that the chip can have: a device of another kind is refused with 1.
+// Whether every count, place and field is one that the chip can have: any other device is refused with 1.
 pub fn proper(d: Device) -> bool
     ensures { λ r. ⌜ r ≡ proper d ⌝ }
 {

@@ -82,7 +82,7 @@ recWritten d value = with-counters d (testRec (d .counters) value)
 unfoldable pub tecWritten : Device → ℕ → Device
 tecWritten d value = with-counters d (testTec (d .counters) value)
 
--- the commands that do more than show or write a register, and what each does
+-- the commands that have a rule of their own, and what each does
 abbrev pub deeds : Device → ℕ → List ℕ → List (ℕ × Device)
 deeds d k bytes =
     (readMessageWithTime, messageTaken d) ∷

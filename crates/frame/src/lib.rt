@@ -127,7 +127,8 @@ fn id_parts(h: Header) -> IdParts
     }
 }
 
-// The identifier in 0x12: Table 2.
+// The identifier in 0x12: Table 2. For whoever writes a message, a driver or another caller: no crate here calls it, and 01's
+// worked numbers are computed from its definition.
 pub fn id_to_send(h: Header) -> IdBytes
     ensures { λ r. ⌜ r ≡ idToSend h ⌝ }
 {

@@ -86,7 +86,7 @@ fn takes_no_frames(acting: u8) -> bool
     }
 }
 
-// A monitor acknowledges nothing, so it takes what another node did.
+// A monitor acknowledges nothing, so it takes only what another node acknowledged.
 fn unacknowledged(acting: u8, acknowledged: bool) -> bool
     ensures { λ r. ⌜ r ≡ unacknowledged acting acknowledged ⌝ }
 {

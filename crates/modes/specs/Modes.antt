@@ -20,7 +20,8 @@ changed d mode = raised (with-acting d mode) mchg
 
 -- 000, CTRL0: "Setting this bit causes HI-3110 reset to occur", and the bit stays until the host clears it.
 -- "Any other mode write withdraws a waiting sleep" by what MODE then names. "If it names a mode other than the acting one, it acts at
--- once and ends a running transmission as an abort does, TXEN and TX1M kept; if not, no transmission is touched". A sleep is only waited for.
+-- once and ends a running transmission as an abort does, TXEN and TX1M kept; if not, no transmission is touched". A sleep is only waited for;
+-- "A sleep write while asleep leaves the mode as it is; the byte's other bits act."
 unfoldable pub writeCtrl0 : Device → ℕ → Device
 writeCtrl0 d v =
     pick (resetBit v) (put-ctrl0 (reset d) 0x88)

@@ -53,6 +53,7 @@ disabled r = with-ctrl1 r (r .ctrl1 % 64)
 unfoldable pub aborted : Device → Device
 aborted d = stopped (with-regs d (disabled (d .regs)))
 
+-- 0x54: "the current message may still complete", out of the FIFO
 unfoldable pub leftAlone : ℕ → ℕ
 leftAlone sending = pick (eqb sending idle) idle alone
 
@@ -64,7 +65,8 @@ cleared d = with-sending (with-tx (with-regs d (disabled (d .regs))) empty) (lef
 unfoldable pub stamped : Message → ℕ → Message
 stamped m time = record { bytes = byte (m .bytes) 1 ∷ time / 256 ∷ time % 256 ∷ drop 3 (m .bytes) }
 
--- The completed message leaves the FIFO, unless 0x54 took it out before: one that was written since then stays.
+-- The completed message "leaves the FIFO when completed", unless 0x54 took it out before. "After 0x54 during a transmission, a new message is
+-- written and the old completion removes it. It must stay."
 unfoldable pub fifoAfter : Fifo → ℕ → Fifo
 fifoAfter tx sending = pick (eqb sending firstInFifo) (take tx) tx
 
