@@ -3,16 +3,14 @@
 use mathlib.Core.Path.{_≡_, refl, ap, sym, _∙_}
 use mathlib.Core.Bool.{Bool, true}
 use mathlib.Core.List.{List}
-use Prim.Native.Nat.{ℕ, _+_, _*_, _/_, _%_, _^_, _≤_}
+use Prim.Native.Nat.{ℕ, _+_, _*_, _/_, _%_, _^_}
 use native.Mathlib.Nat.{mod-eq-of-lt}
 use native.Mathlib.Omega.{arith}
-use lib.ListN.{length, take}
-use lib.Seq.{take-at, length-take-le}
 use Rattle.base.specs.Bit.{bits, isSet}
 use Rattle.base.specs.Pick.{pick, flag}
 use Rattle.base.proofs.Booleans.{flag-le, flag-back}
 use Rattle.frame.specs.declared.Header.{Header}
-use Rattle.frame.specs.Length.{possible, dataBytes, dataOf}
+use Rattle.frame.specs.Length.{possible, dataOf}
 use Rattle.frame.specs.Tables.{idBits, idFrom, idAsRead}
 use Rattle.frame.specs.Received.{received, headerIn, timeIn, filterIn, dataIn}
 use Rattle.frame.proofs.Parts.{third-bit, last-bit, id-back, code-fits, id-bits-lt, id-bits-back, header-path}
@@ -77,8 +75,3 @@ received-once h h′ b b′ t t′ f f′ ok ok′ e = record {
   time = sym (time-back h b t f) ∙ ap timeIn e ∙ time-back h′ b′ t′ f′;
   filter = sym (filter-back h b t f) ∙ ap filterIn e ∙ filter-back h′ b′ t′ f′;
 }
-
--- the data itself is the start of the eight bytes
-pub data-start : (h : Header) (bytes : List ℕ) → dataBytes h ≤ length bytes → take (dataBytes h) (dataOf h bytes) ≡ take (dataBytes h) bytes
-unfolding dataOf
-data-start h bytes enough = take-at (take (dataBytes h) bytes) _ (dataBytes h) (length-take-le (dataBytes h) bytes enough)
