@@ -12,15 +12,26 @@ use events::Event;
 use frame::Header;
 use receive::Arrival;
 
+// ERR's bits 0 to 4.
+const STUFERR: u8 = 1;
+
+const ACKERR: u8 = 2;
+
+const CRCERR: u8 = 4;
+
+const FRMERR: u8 = 8;
+
+const BITERR: u8 = 16;
+
 fn err_bit(kind: ErrorKind) -> u8
     ensures { λ r. ⌜ r ≡ errBit kind ⌝ }
 {
     match kind {
-        ErrorKind::Stuff => 1,
-        ErrorKind::Ack => 2,
-        ErrorKind::Crc => 4,
-        ErrorKind::Form => 8,
-        ErrorKind::Bit => 16,
+        ErrorKind::Stuff => STUFERR,
+        ErrorKind::Ack => ACKERR,
+        ErrorKind::Crc => CRCERR,
+        ErrorKind::Form => FRMERR,
+        ErrorKind::Bit => BITERR,
     }
 }
 
