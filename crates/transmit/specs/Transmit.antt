@@ -1,10 +1,10 @@
 -- A transmission, from its start to each of its ends (01, Bus events; 000, CTRL1 and the transmit history).
 use mathlib.Core.Bool.{Bool, not, _&&_, _||_}
-use mathlib.Core.List.{_∷_}
+use mathlib.Core.List.{_∷_, _++_}
 use Prim.Native.Nat.{ℕ, _+_, _*_, _/_, _%_}
 use lib.Dec.{eqb}
 use lib.ListN.{drop}
-use Rattle.base.specs.Bit.{byte}
+use Rattle.base.specs.Bit.{byte, timeBytes}
 use Rattle.base.specs.Pick.{pick}
 use Rattle.counters.specs.declared.Counters.{Counters}
 use Rattle.counters.specs.Rules.{completed}
@@ -63,7 +63,7 @@ cleared d = with-sending (with-tx (with-regs d (disabled (d .regs))) empty) (lef
 
 -- the time tag in bytes 2 and 3
 unfoldable pub stamped : Message → ℕ → Message
-stamped m time = record { bytes = byte (m .bytes) 1 ∷ time / 256 ∷ time % 256 ∷ drop 3 (m .bytes) }
+stamped m time = record { bytes = byte (m .bytes) 1 ∷ (timeBytes time ++ drop 3 (m .bytes)) }
 
 -- The completed message "leaves the FIFO when completed", unless 0x54 took it out before. "After 0x54 during a transmission, a new message is
 -- written and the old completion removes it. It must stay."
