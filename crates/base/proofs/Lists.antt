@@ -7,6 +7,7 @@ use native.Mathlib.Numerals.{add-one}
 use native.Mathlib.Nat.{zero-add, add-zero, add-suc, suc-add, zero-sub, sub-zero, suc-sub-suc, le-of-suc-le-suc, not-suc-le-zero}
 use lib.ListN.{length, take, drop, getD, set, replicate}
 use lib.Seq.{paste-suc}
+use Rattle.base.specs.Tabulate.{tabulate}
 
 -- a turn of a loop that copies s over the front of d
 pub copy-more : {A : Type 0} (d s : List A) (i : ℕ) (z : A) → i < length d → i < length s
@@ -20,10 +21,6 @@ drop-replicate (suc n) zero a = rw (zero-sub (suc n))
 drop-replicate (suc n) (suc m) a = rw (suc-sub-suc m n) (drop-replicate n m a)
 
 -- ---- a table's rule, proved once: the table is `tabulate rule 0 n`, which antt computes, and so has the rule at each entry
-
-abbrev pub tabulate : {A : Type 0} → (ℕ → A) → ℕ → ℕ → List A
-tabulate f i zero = []
-tabulate f i (suc n) = f i ∷ tabulate f (suc i) n
 
 getD-tabulate : {A : Type 0} (f : ℕ → A) (d : A) (n i k : ℕ) → k < n → getD (tabulate f i n) k d ≡ f (i + k)
 getD-tabulate f d zero i k h = absurd (not-suc-le-zero h)

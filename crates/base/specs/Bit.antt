@@ -1,6 +1,6 @@
 -- Bits and bytes, numbered as 000 numbers them: bit 0 is the lowest, 7 the highest of a byte; bytes count from 1.
 use mathlib.Core.Bool.{Bool}
-use mathlib.Core.List.{List}
+use mathlib.Core.List.{List, [], _∷_}
 use Prim.Native.Nat.{ℕ, suc, pred, _-_, _/_, _%_, _^_}
 use lib.Dec.{eqb}
 use lib.ListN.{getD}
@@ -18,3 +18,7 @@ bits hi lo x = x / 2 ^ lo % 2 ^ (suc hi - lo)
 -- byte k of a table, and 0 past its end
 abbrev pub byte : List ℕ → ℕ → ℕ
 byte table k = getD table (pred k) 0
+
+-- the time tag's two bytes, the upper first
+abbrev pub timeBytes : ℕ → List ℕ
+timeBytes time = time / 256 ∷ time % 256 ∷ []

@@ -3,7 +3,6 @@ ghost use mathlib.Core.Path.{_≡_};
 ghost use Prim.Native.Nat.{_≤_};
 ghost use lib.ListN.{length};
 use base::at;
-use chip::Device;
 use events::ErrorKind;
 use events::Event;
 use frame::Header;

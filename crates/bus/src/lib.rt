@@ -1,4 +1,5 @@
-// The bus's door: an event in, an answer out. First the answer is found, from the state alone; then the change is made.
+// The bus's door: an event in, an answer out. First the answer is found, from the state and the event,
+// changing nothing; then the change is made.
 ghost use mathlib.Core.Path.{_≡_};
 ghost use Rattle.bus.specs.Event.{answer, event};
 ghost use Rattle.bus.specs.Pins.{pins};

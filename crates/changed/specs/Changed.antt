@@ -10,7 +10,7 @@ use Rattle.frame.specs.declared.Header.{Header}
 use Rattle.frame.specs.Received.{headerIn, dataIn}
 use Rattle.chip.specs.declared.Device.{Device}
 use Rattle.chip.specs.Parts.{with-counters, with-time, with-txenpin}
-use Rattle.chip.specs.State.{normal, monitor, bor}
+use Rattle.chip.specs.State.{normal, unlessMonitor, bor}
 use Rattle.receive.specs.declared.Arrival.{Arrival}
 use Rattle.receive.specs.declared.Arrival.the-variants.{Queued, A1, A2, A3, A4, A5}
 use Rattle.flags.specs.Flags.{busError}
@@ -37,45 +37,49 @@ errBit Bit = 16
 unfoldable pub countedFrame : Counters → ℕ → Counters
 countedFrame c acting = pick (eqb acting normal) (goodFrame c) c
 
+-- "A4, A5 and Queued put the frame there", and REC moves
 unfoldable pub heard : Device → Header → List ℕ → Arrival → Device
 heard d h bytes what = with-counters (arrived d h bytes what) (countedFrame (d .counters) (d .acting))
 
 -- "A1 to A3 leave the temporary buffer alone. A4, A5 and Queued put the frame there."
-unfoldable pub reachesBuffer : Arrival → Bool
-reachesBuffer Queued = true
-reachesBuffer A1 = false
-reachesBuffer A2 = false
-reachesBuffer A3 = false
-reachesBuffer A4 = true
-reachesBuffer A5 = true
+unfoldable pub reachesTemporary : Arrival → Bool
+reachesTemporary Queued = true
+reachesTemporary A1 = false
+reachesTemporary A2 = false
+reachesTemporary A3 = false
+reachesTemporary A4 = true
+reachesTemporary A5 = true
 
 -- "With WAKEUP set, a bus activity event or a good frame in sleep brings monitor mode": a frame that isn't taken is activity
 unfoldable pub frameAfter : Device → Header → List ℕ → Arrival → Device
-frameAfter d h bytes what = pick (reachesBuffer what) (heard d h bytes what) (busActivity d)
+frameAfter d h bytes what = pick (reachesTemporary what) (heard d h bytes what) (busActivity d)
 
--- "Monitor mode moves neither."
+-- "Receive error: REC + 1."
 unfoldable pub countedReceiveError : Counters → ℕ → Counters
-countedReceiveError c acting = pick (eqb acting monitor) c (receiveError c)
+countedReceiveError c acting = unlessMonitor acting c (receiveError c)
 
 -- "the event sets that bit, also when exempt or in monitor mode"
-unfoldable pub errorReceived : Device → ErrorKind → Device
-errorReceived d kind = with-counters (busError d (errBit kind)) (countedReceiveError (d .counters) (d .acting))
+unfoldable pub receiveErrorMet : Device → ErrorKind → Device
+receiveErrorMet d kind = with-counters (busError d (errBit kind)) (countedReceiveError (d .counters) (d .acting))
 
+-- "Dominant after our flag: REC + 8."
 unfoldable pub dominantMet : Device → Device
-dominantMet d = pick (eqb (d .acting) monitor) d (with-counters d (dominantBit (d .counters)))
+dominantMet d = unlessMonitor (d .acting) d (with-counters d (dominantBit (d .counters)))
 
+-- "Counted transmit error: TEC + 8."
 unfoldable pub countedTransmitError : Counters → ℕ → Bool → Counters
-countedTransmitError c acting counted = pick counted (pick (eqb acting monitor) c (transmitError c)) c
+countedTransmitError c acting counted = pick counted (unlessMonitor acting c (transmitError c)) c
 
--- an error leaves the message first in the FIFO, to be sent again
-unfoldable pub errorSent : Device → ErrorKind → Bool → Device
-errorSent d kind counted =
+-- "abort, an error or lost arbitration leaves it first in the FIFO; one-shot then doesn't send it again until enabled"
+unfoldable pub transmitErrorMet : Device → ErrorKind → Bool → Device
+transmitErrorMet d kind counted =
     stopped (with-counters (busError d (errBit kind)) (countedTransmitError (d .counters) (d .acting) counted))
 
 -- in loopback the own message arrives, with the time tag that the history gets too
 unfoldable pub echoed : Device → Arrival → Device
 echoed d what = sent (arrived d (headerIn (d .buffer .bytes)) (dataIn (d .buffer .bytes)) what)
 
+-- "The 128th group of eleven recessive bits ends bus off, both counters at 0, under 000's rule for automatic recovery."
 unfoldable pub recessiveMet : Device → Device
 recessiveMet d = with-counters d (elevenRecessive (d .counters) (bor d))
 
@@ -83,6 +87,7 @@ recessiveMet d = with-counters d (elevenRecessive (d .counters) (bor d))
 unfoldable pub ticked : Device → ℕ → Device
 ticked d count = with-time d ((d .time + count) % 65536)
 
+-- "TXEN pin and its level"
 unfoldable pub pinSet : Device → Bool → Device
 pinSet d level = with-txenpin d level
 
@@ -106,9 +111,9 @@ arrival d Unknown bytes what = d
 -- an event that is done; a good frame's answer is an arrival
 unfoldable pub after : Device → Event → Device
 after d (GoodFrame h acknowledged given) = d
-after d (ReceiveError kind) = errorReceived d kind
+after d (ReceiveError kind) = receiveErrorMet d kind
 after d DominantBit = dominantMet d
-after d (TransmitError kind counted) = errorSent d kind counted
+after d (TransmitError kind counted) = transmitErrorMet d kind counted
 after d Begun = begun d
 after d Completed = sent d
 after d ArbitrationLost = stopped d

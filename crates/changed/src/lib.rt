@@ -1,8 +1,8 @@
 // What an event that isn't refused changes.
 ghost use mathlib.Core.Path.{_≡_};
 ghost use Prim.Native.Nat.{_+_, _%_};
-ghost use Rattle.changed.specs.Changed.{errBit, countedFrame, heard, reachesBuffer, frameAfter, countedReceiveError, errorReceived};
-ghost use Rattle.changed.specs.Changed.{dominantMet, countedTransmitError, errorSent, echoed, recessiveMet, ticked, pinSet, arrival, after};
+ghost use Rattle.changed.specs.Changed.{errBit, countedFrame, heard, reachesTemporary, frameAfter, countedReceiveError, receiveErrorMet};
+ghost use Rattle.changed.specs.Changed.{dominantMet, countedTransmitError, transmitErrorMet, echoed, recessiveMet, ticked, pinSet, arrival, after};
 use chip::Device;
 use chip::MONITOR;
 use chip::NORMAL;
@@ -12,15 +12,26 @@ use events::Event;
 use frame::Header;
 use receive::Arrival;
 
+// ERR's bits 0 to 4.
+const STUFERR: u8 = 1;
+
+const ACKERR: u8 = 2;
+
+const CRCERR: u8 = 4;
+
+const FRMERR: u8 = 8;
+
+const BITERR: u8 = 16;
+
 fn err_bit(kind: ErrorKind) -> u8
     ensures { λ r. ⌜ r ≡ errBit kind ⌝ }
 {
     match kind {
-        ErrorKind::Stuff => 1,
-        ErrorKind::Ack => 2,
-        ErrorKind::Crc => 4,
-        ErrorKind::Form => 8,
-        ErrorKind::Bit => 16,
+        ErrorKind::Stuff => STUFERR,
+        ErrorKind::Ack => ACKERR,
+        ErrorKind::Crc => CRCERR,
+        ErrorKind::Form => FRMERR,
+        ErrorKind::Bit => BITERR,
     }
 }
 
@@ -47,8 +58,8 @@ fn heard(d: Device, h: Header, payload: [u8; 8], what: Arrival) -> Device
 }
 
 // Whether a good frame reaches the temporary buffer.
-fn reaches_buffer(what: Arrival) -> bool
-    ensures { λ r. ⌜ r ≡ reachesBuffer what ⌝ }
+fn reaches_temporary(what: Arrival) -> bool
+    ensures { λ r. ⌜ r ≡ reachesTemporary what ⌝ }
 {
     match what {
         Arrival::Queued => true,
@@ -60,11 +71,12 @@ fn reaches_buffer(what: Arrival) -> bool
     }
 }
 
-// A good frame, by what became of it. One that isn't taken is still activity on the bus, and wakes a sleeping device.
+// A good frame, by what became of it. One that isn't taken is still activity on the bus, and wakes a sleeping device if
+// WAKEUP is set.
 fn frame_after(d: Device, h: Header, payload: [u8; 8], what: Arrival) -> Device
     ensures { λ r. ⌜ r ≡ frameAfter d h payload what ⌝ }
 {
-    if reaches_buffer(what) {
+    if reaches_temporary(what) {
         heard(d, h, payload, what)
     } else {
         modes::bus_activity(d)
@@ -81,8 +93,8 @@ fn counted_receive_error(c: Counters, acting: u8) -> Counters
     }
 }
 
-fn error_received(d: Device, kind: ErrorKind) -> Device
-    ensures { λ r. ⌜ r ≡ errorReceived d kind ⌝ }
+fn receive_error_met(d: Device, kind: ErrorKind) -> Device
+    ensures { λ r. ⌜ r ≡ receiveErrorMet d kind ⌝ }
 {
     let pair = d.counters;
     let c = counted_receive_error(pair, d.acting);
@@ -120,8 +132,8 @@ fn counted_transmit_error(c: Counters, acting: u8, counted: bool) -> Counters
     }
 }
 
-fn error_sent(d: Device, kind: ErrorKind, counted: bool) -> Device
-    ensures { λ r. ⌜ r ≡ errorSent d kind counted ⌝ }
+fn transmit_error_met(d: Device, kind: ErrorKind, counted: bool) -> Device
+    ensures { λ r. ⌜ r ≡ transmitErrorMet d kind counted ⌝ }
 {
     let pair = d.counters;
     let c = counted_transmit_error(pair, d.acting, counted);
@@ -203,9 +215,9 @@ pub fn after(d: Device, e: Event) -> Device
     ensures { λ r. ⌜ r ≡ after d e ⌝ }
 {
     match e {
-        Event::ReceiveError(kind) => error_received(d, kind),
+        Event::ReceiveError(kind) => receive_error_met(d, kind),
         Event::DominantBit => dominant_met(d),
-        Event::TransmitError(kind, counted) => error_sent(d, kind, counted),
+        Event::TransmitError(kind, counted) => transmit_error_met(d, kind, counted),
         Event::Begun => transmit::begun(d),
         Event::Completed => transmit::sent(d),
         Event::ArbitrationLost => transmit::stopped(d),

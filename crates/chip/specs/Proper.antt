@@ -5,7 +5,7 @@ use Rattle.base.specs.Pick.{pick}
 use Rattle.fifo.specs.Queue.{inRange}
 use Rattle.chip.specs.declared.Device.{Device}
 use Rattle.chip.specs.declared.Registers.{Registers}
-use Rattle.chip.specs.State.{modeOf, sleep, initialization, first-in-fifo, alone}
+use Rattle.chip.specs.State.{modeOf, sleep, initialization, firstInFifo, alone}
 
 -- ERR has five bits of its own, MTAG two; FILHIT is 0000, or 1000 to 1111. Every other register may hold any byte.
 unfoldable pub registersInRange : Registers → Bool
@@ -13,7 +13,7 @@ registersInRange r = leb (r .errs) 31 && (leb (r .mtag) 3 && (eqb (r .filhit) 0 
 
 -- A message that runs as the first in the transmit FIFO is in it.
 unfoldable pub sendingInRange : Device → Bool
-sendingInRange d = pick (eqb (d .sending) first-in-fifo) (leb 1 (d .tx .count)) (leb (d .sending) alone)
+sendingInRange d = pick (eqb (d .sending) firstInFifo) (leb 1 (d .tx .count)) (leb (d .sending) alone)
 
 -- The acting mode is the one that MODE names; while MODE names sleep, an earlier one may still act.
 unfoldable pub actingInRange : Device → Bool

@@ -2,11 +2,11 @@
 use mathlib.Core.Bool.{Bool, false, _||_}
 use mathlib.Core.List.{List, []}
 use Prim.Native.Nat.{ℕ, _/_}
-use lib.Dec.{ltb}
+use lib.Dec.{eqb, ltb}
 use lib.ListN.{getD, replicate}
 use Rattle.base.specs.Bit.{isSet}
 use Rattle.base.specs.Pick.{pick}
-use Rattle.base.proofs.Lists.{tabulate}
+use Rattle.base.specs.Tabulate.{tabulate}
 use Rattle.counters.specs.Rules.{zeroed}
 use Rattle.fifo.specs.Queue.{empty, none}
 use Rattle.chip.specs.declared.Device.{Device}
@@ -29,6 +29,10 @@ sleep = 3
 abbrev pub initialization : ℕ
 initialization = 4
 
+-- 01, Bus events: "Monitor mode moves neither", REC nor TEC: what stands there, and what a rule makes of it in any other mode
+abbrev pub unlessMonitor : {A : Type 0} → ℕ → A → A → A
+unlessMonitor acting before after = pick (eqb acting monitor) before after
+
 -- MODE is CTRL0's bits 7 to 5.
 unfoldable pub modeOf : ℕ → ℕ
 modeOf ctrl0 = pick (ltb ctrl0 128) (ctrl0 / 32) initialization
@@ -37,15 +41,15 @@ modeOf ctrl0 = pick (ltb ctrl0 128) (ctrl0 / 32) initialization
 abbrev pub idle : ℕ
 idle = 0
 
-abbrev pub first-in-fifo : ℕ
-first-in-fifo = 1
+abbrev pub firstInFifo : ℕ
+firstInFifo = 1
 
 abbrev pub alone : ℕ
 alone = 2
 
 -- 000's defaults: CTRL0 has MODE 100, every other register is zero.
-abbrev pub fresh-registers : Registers
-fresh-registers = record {
+abbrev pub freshRegisters : Registers
+freshRegisters = record {
   ctrl0 = 0x80;
   ctrl1 = 0;
   btr0 = 0;
@@ -64,7 +68,7 @@ zeros = record { bytes = replicate 6 0 }
 
 unfoldable pub fresh : Device
 fresh = record {
-  regs = fresh-registers;
+  regs = freshRegisters;
   counters = zeroed;
   filters = replicate 8 zeros;
   masks = replicate 8 zeros;
@@ -80,6 +84,11 @@ fresh = record {
 }
 
 -- the bits of CTRL0 and CTRL1 that act
+
+-- RESET, in a byte that is written to CTRL0: "1 = Master Reset (same as MR pin = 1)"
+abbrev pub resetBit : ℕ → Bool
+resetBit ctrl0 = isSet 3 ctrl0
+
 abbrev pub bor : Device → Bool
 bor d = isSet 2 (d .regs .ctrl0)
 
@@ -91,6 +100,10 @@ txen d = isSet 7 (d .regs .ctrl1)
 
 abbrev pub tx1m : Device → Bool
 tx1m d = isSet 6 (d .regs .ctrl1)
+
+-- OSM: "1 = Enable one-shot mode"
+abbrev pub osm : ℕ → Bool
+osm ctrl1 = isSet 5 ctrl1
 
 abbrev pub filton : Device → Bool
 filton d = isSet 4 (d .regs .ctrl1)

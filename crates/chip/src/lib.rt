@@ -21,7 +21,7 @@ pub const INITIALIZATION: u8 = 4;
 pub const IDLE: u8 = 0;
 
 // The running message is the first in the transmit FIFO.
-pub const FIRST: u8 = 1;
+pub const FIRST_IN_FIFO: u8 = 1;
 
 // 0x54 took the running message out of the FIFO.
 pub const ALONE: u8 = 2;
@@ -121,7 +121,7 @@ pub fn mode_of(ctrl0: u8) -> u8
     }
 }
 
-// Whether a message may be begun, for all that the host and the TXEN pin say.
+// Whether transmission is enabled: by TXEN, TX1M or the TXEN pin.
 pub fn enabled(d: Device) -> bool
     ensures { λ r. ⌜ r ≡ enabled d ⌝ }
 {
@@ -185,7 +185,7 @@ fn sending_in_range(d: Device) -> bool
 {
     let sending = d.sending;
     let waiting = d.tx.count;
-    if sending == FIRST {
+    if sending == FIRST_IN_FIFO {
         1 <= waiting
     } else {
         sending <= 2
@@ -204,7 +204,7 @@ fn acting_in_range(d: Device) -> bool
     }
 }
 
-// Whether every count, place and field is one that the chip can have: a device of another kind is refused with 1.
+// Whether every count, place and field is one that the chip can have: any other device is refused with 1.
 pub fn proper(d: Device) -> bool
     ensures { λ r. ⌜ r ≡ proper d ⌝ }
 {

@@ -1,6 +1,6 @@
 -- The table's rules, each computed once over all its rows, and what a search for a row needs. Assumes nothing.
 use mathlib.Core.Path.{_≡_, refl}
-use mathlib.Core.Bool.{Bool, true, false, not, _&&_, _||_}
+use mathlib.Core.Bool.{Bool, true, false, not, _&&_}
 use mathlib.Core.List.{List, [], _∷_}
 use mathlib.Core.Logic.{_⊎_, inl, inr, ⊎-elim}
 use Prim.Native.Nat.{ℕ, suc, _<_, _≤_}
@@ -13,7 +13,7 @@ use Rattle.base.proofs.Booleans.{and-left, and-right}
 use Rattle.commands.specs.declared.Found.{Found}
 use Rattle.commands.specs.declared.Found.the-variants.{At, Nothing}
 use Rattle.commands.specs.declared.Row.{Row}
-use Rattle.commands.specs.Table.{rows, noRow, lookup, placeIn}
+use Rattle.commands.specs.Table.{factory, rows, noRow, lookup, placeIn}
 
 -- a rule of every row
 abbrev pub all : (Row → Bool) → List Row → Bool
@@ -24,10 +24,6 @@ all rule (r ∷ rs) = rule r && all rule rs
 abbrev pub distinct : List Row → Bool
 distinct [] = true
 distinct (r ∷ rs) = all (λ s. not (eqb (r .command) (s .command))) rs && distinct rs
-
--- the three factory commands
-abbrev pub factory : ℕ → Bool
-factory c = eqb c 0x4E || (eqb c 0xF4 || eqb c 0xF6)
 
 -- a row's reply is at most sixteen bytes, and its command is no factory command
 abbrev pub sound : Row → Bool

@@ -1,4 +1,5 @@
 -- The commands, in the order of 000's Table 1 (01, Transfers: "one constant table: command, bytes in, bytes out").
+use mathlib.Core.Bool.{Bool, _||_}
 use mathlib.Core.List.{List, [], _∷_}
 use Prim.Native.Nat.{ℕ, suc}
 use lib.Dec.{eqb}
@@ -17,98 +18,102 @@ abbrev pub row : ℕ → ℕ → ℕ → ℕ → ℕ → ℕ → Row
 row c lo hi o v k = record { command = c; least = lo; most = hi; out = o; verb = v; index = k }
 
 -- "A read, reset or abort is the command byte alone"
-abbrev pub read : ℕ → ℕ → ℕ → Row
-read c o v = row c 0 0 o v 0
+abbrev pub readRow : ℕ → ℕ → ℕ → Row
+readRow c o v = row c 0 0 o v 0
 
-abbrev pub reset : ℕ → ℕ → Row
-reset c v = row c 0 0 0 v 0
+abbrev pub resetRow : ℕ → ℕ → Row
+resetRow c v = row c 0 0 0 v 0
 
 -- "filter and mask reads give 6"
 abbrev pub readOf : ℕ → ℕ → ℕ → Row
 readOf c v k = row c 0 0 6 v k
 
 -- "a register write has 1 byte after it, a filter or mask write 6"
-abbrev pub write : ℕ → ℕ → Row
-write c v = row c 1 1 0 v 0
+abbrev pub writeRow : ℕ → ℕ → Row
+writeRow c v = row c 1 1 0 v 0
 
 abbrev pub writeTo : ℕ → ℕ → ℕ → Row
 writeTo c v k = row c 6 6 0 v k
 
+-- 01, What the device stands between: outside are "… and commands 0x4E, 0xF4 and 0xF6". No row has one of them: `table-rule` in proofs/Rows.
+abbrev pub factory : ℕ → Bool
+factory c = eqb c 0x4E || (eqb c 0xF4 || eqb c 0xF6)
+
 -- what stands past the last row
 abbrev pub noRow : Row
-noRow = reset 0 0
+noRow = resetRow 0 0
 
 unfoldable pub rows : List Row
 rows =
-    read 66 15 readTemporaryWithTime ∷  -- 0x42
-    read 68 13 readTemporary ∷  -- 0x44
-    read 70 16 readMessageWithTime ∷  -- 0x46
-    read 72 14 readMessage ∷  -- 0x48
-    read 74 11 readDataWithTime ∷  -- 0x4A
-    read 76 9 readData ∷  -- 0x4C
-    readOf 162 readFilter 0 ∷  -- 0xA2
-    readOf 164 readFilter 1 ∷  -- 0xA4
-    readOf 166 readFilter 2 ∷  -- 0xA6
-    readOf 168 readFilter 3 ∷  -- 0xA8
-    readOf 170 readFilter 4 ∷  -- 0xAA
-    readOf 172 readFilter 5 ∷  -- 0xAC
-    readOf 174 readFilter 6 ∷  -- 0xAE
-    readOf 178 readFilter 7 ∷  -- 0xB2
-    readOf 180 readMask 0 ∷  -- 0xB4
-    readOf 182 readMask 1 ∷  -- 0xB6
-    readOf 184 readMask 2 ∷  -- 0xB8
-    readOf 186 readMask 3 ∷  -- 0xBA
-    readOf 188 readMask 4 ∷  -- 0xBC
-    readOf 190 readMask 5 ∷  -- 0xBE
-    readOf 194 readMask 6 ∷  -- 0xC2
-    readOf 196 readMask 7 ∷  -- 0xC4
-    read 210 1 readCtrl0 ∷  -- 0xD2
-    read 212 1 readCtrl1 ∷  -- 0xD4
-    read 214 1 readBtr0 ∷  -- 0xD6
-    read 216 1 readBtr1 ∷  -- 0xD8
-    read 218 1 readMesstat ∷  -- 0xDA
-    read 220 1 readErr ∷  -- 0xDC
-    read 222 1 readIntf ∷  -- 0xDE
-    read 226 1 readStatf ∷  -- 0xE2
-    read 228 1 readInte ∷  -- 0xE4
-    read 230 1 readStatfe ∷  -- 0xE6
-    read 232 1 readGpine ∷  -- 0xE8
-    read 234 1 readRec ∷  -- 0xEA
-    read 236 1 readTec ∷  -- 0xEC
-    read 238 3 readHistory ∷  -- 0xEE
-    read 248 1 readRecessiveCount ∷  -- 0xF8
-    read 250 2 readTime ∷  -- 0xFA
-    reset 82 abortTransmission ∷  -- 0x52
-    reset 84 clearTransmit ∷  -- 0x54
-    reset 86 masterReset ∷  -- 0x56
-    reset 88 resetTime ∷  -- 0x58
-    reset 90 clearReceive ∷  -- 0x5A
-    row 18 4 14 0 writeMessage 0 ∷  -- 0x12
-    write 20 writeCtrl0 ∷  -- 0x14
-    write 22 writeCtrl1 ∷  -- 0x16
-    write 24 writeBtr0 ∷  -- 0x18
-    write 26 writeBtr1 ∷  -- 0x1A
-    write 28 writeInte ∷  -- 0x1C
-    write 30 writeStatfe ∷  -- 0x1E
-    write 34 writeGpine ∷  -- 0x22
-    write 36 writeRec ∷  -- 0x24
-    write 38 writeTec ∷  -- 0x26
-    writeTo 98 writeFilter 0 ∷  -- 0x62
-    writeTo 100 writeFilter 1 ∷  -- 0x64
-    writeTo 102 writeFilter 2 ∷  -- 0x66
-    writeTo 104 writeFilter 3 ∷  -- 0x68
-    writeTo 106 writeFilter 4 ∷  -- 0x6A
-    writeTo 108 writeFilter 5 ∷  -- 0x6C
-    writeTo 110 writeFilter 6 ∷  -- 0x6E
-    writeTo 114 writeFilter 7 ∷  -- 0x72
-    writeTo 116 writeMask 0 ∷  -- 0x74
-    writeTo 118 writeMask 1 ∷  -- 0x76
-    writeTo 120 writeMask 2 ∷  -- 0x78
-    writeTo 122 writeMask 3 ∷  -- 0x7A
-    writeTo 124 writeMask 4 ∷  -- 0x7C
-    writeTo 126 writeMask 5 ∷  -- 0x7E
-    writeTo 130 writeMask 6 ∷  -- 0x82
-    writeTo 132 writeMask 7 ∷  -- 0x84
+    readRow 0x42 15 readTemporaryWithTime ∷
+    readRow 0x44 13 readTemporary ∷
+    readRow 0x46 16 readMessageWithTime ∷
+    readRow 0x48 14 readMessage ∷
+    readRow 0x4A 11 readDataWithTime ∷
+    readRow 0x4C 9 readData ∷
+    readOf 0xA2 readFilter 0 ∷
+    readOf 0xA4 readFilter 1 ∷
+    readOf 0xA6 readFilter 2 ∷
+    readOf 0xA8 readFilter 3 ∷
+    readOf 0xAA readFilter 4 ∷
+    readOf 0xAC readFilter 5 ∷
+    readOf 0xAE readFilter 6 ∷
+    readOf 0xB2 readFilter 7 ∷
+    readOf 0xB4 readMask 0 ∷
+    readOf 0xB6 readMask 1 ∷
+    readOf 0xB8 readMask 2 ∷
+    readOf 0xBA readMask 3 ∷
+    readOf 0xBC readMask 4 ∷
+    readOf 0xBE readMask 5 ∷
+    readOf 0xC2 readMask 6 ∷
+    readOf 0xC4 readMask 7 ∷
+    readRow 0xD2 1 readCtrl0 ∷
+    readRow 0xD4 1 readCtrl1 ∷
+    readRow 0xD6 1 readBtr0 ∷
+    readRow 0xD8 1 readBtr1 ∷
+    readRow 0xDA 1 readMesstat ∷
+    readRow 0xDC 1 readErr ∷
+    readRow 0xDE 1 readIntf ∷
+    readRow 0xE2 1 readStatf ∷
+    readRow 0xE4 1 readInte ∷
+    readRow 0xE6 1 readStatfe ∷
+    readRow 0xE8 1 readGpine ∷
+    readRow 0xEA 1 readRec ∷
+    readRow 0xEC 1 readTec ∷
+    readRow 0xEE 3 readHistory ∷
+    readRow 0xF8 1 readRecessiveCount ∷
+    readRow 0xFA 2 readTime ∷
+    resetRow 0x52 abortTransmission ∷
+    resetRow 0x54 clearTransmit ∷
+    resetRow 0x56 masterReset ∷
+    resetRow 0x58 resetTime ∷
+    resetRow 0x5A clearReceive ∷
+    row 0x12 4 14 0 writeMessage 0 ∷
+    writeRow 0x14 writeCtrl0 ∷
+    writeRow 0x16 writeCtrl1 ∷
+    writeRow 0x18 writeBtr0 ∷
+    writeRow 0x1A writeBtr1 ∷
+    writeRow 0x1C writeInte ∷
+    writeRow 0x1E writeStatfe ∷
+    writeRow 0x22 writeGpine ∷
+    writeRow 0x24 writeRec ∷
+    writeRow 0x26 writeTec ∷
+    writeTo 0x62 writeFilter 0 ∷
+    writeTo 0x64 writeFilter 1 ∷
+    writeTo 0x66 writeFilter 2 ∷
+    writeTo 0x68 writeFilter 3 ∷
+    writeTo 0x6A writeFilter 4 ∷
+    writeTo 0x6C writeFilter 5 ∷
+    writeTo 0x6E writeFilter 6 ∷
+    writeTo 0x72 writeFilter 7 ∷
+    writeTo 0x74 writeMask 0 ∷
+    writeTo 0x76 writeMask 1 ∷
+    writeTo 0x78 writeMask 2 ∷
+    writeTo 0x7A writeMask 3 ∷
+    writeTo 0x7C writeMask 4 ∷
+    writeTo 0x7E writeMask 5 ∷
+    writeTo 0x82 writeMask 6 ∷
+    writeTo 0x84 writeMask 7 ∷
     []
 
 -- the row whose command it is, the first if there were two

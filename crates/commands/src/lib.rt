@@ -32,7 +32,8 @@ fn at(i: usize) -> Row
     table::ROWS[i]
 }
 
-// The place of the command's row. It is looked up and not searched for: a search costs many times what a transfer does.
+// The place of the command's row. It is looked up and not searched for: a search took more time than all else that a
+// transfer does (docs/DECISIONS.md, 50).
 fn place(command: u8) -> u8
     ensures { λ r. ⌜ r ≡ placeIn rows command ⌝ }
 {

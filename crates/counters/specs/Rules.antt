@@ -58,9 +58,9 @@ elevenRecessive c bor =
     c
 
 -- 0x24, a test write: in every mode
-unfoldable pub writeRec : Counters → ℕ → Counters
-writeRec c v = with-rec c v
+unfoldable pub testRec : Counters → ℕ → Counters
+testRec c v = with-rec c v
 
 -- 0x26, a test write: "TEC stands still, test writes included", in bus off
-unfoldable pub writeTec : Counters → ℕ → Counters
-writeTec c v = pick (c .busoff) c (with-tec c v)
+unfoldable pub testTec : Counters → ℕ → Counters
+testTec c v = pick (c .busoff) c (with-tec c v)

@@ -3,7 +3,7 @@
 ghost use mathlib.Core.Path.{_≡_};
 ghost use Prim.Native.Nat.{_+_, _-_, min};
 ghost use Rattle.counters.specs.Rules.{receiveError, dominantBit, goodFrame, transmitError, completed};
-ghost use Rattle.counters.specs.Rules.{elevenRecessive, writeRec, writeTec};
+ghost use Rattle.counters.specs.Rules.{elevenRecessive, testRec, testTec};
 
 pub mod lent;
 
@@ -117,15 +117,15 @@ pub fn eleven_recessive(c: Counters, bor: bool) -> Counters
 }
 
 // The test write 0x24.
-pub fn write_rec(c: Counters, rec: u8) -> Counters
-    ensures { λ r. ⌜ r ≡ writeRec c rec ⌝ }
+pub fn test_rec(c: Counters, rec: u8) -> Counters
+    ensures { λ r. ⌜ r ≡ testRec c rec ⌝ }
 {
     Counters { rec, ..c }
 }
 
 // The test write 0x26.
-pub fn write_tec(c: Counters, tec: u8) -> Counters
-    ensures { λ r. ⌜ r ≡ writeTec c tec ⌝ }
+pub fn test_tec(c: Counters, tec: u8) -> Counters
+    ensures { λ r. ⌜ r ≡ testTec c tec ⌝ }
 {
     let busoff = c.busoff;
     if busoff { c } else { Counters { tec, ..c } }

@@ -6,9 +6,9 @@ use lib.Dec.{eqb}
 use lib.ListN.{length, drop, set}
 use Rattle.base.specs.Bit.{byte}
 use Rattle.base.specs.Pick.{pick, among}
-use Rattle.counters.specs.Rules.{writeRec, writeTec}
+use Rattle.counters.specs.Rules.{testRec, testTec}
 use Rattle.fifo.specs.Queue.{empty, put, take}
-use Rattle.sent.specs.Sent.{readMessage as messageRead, stored}
+use Rattle.sent.specs.Sent.{messageOf, stored}
 use Rattle.chip.specs.declared.Device.{Device}
 use Rattle.chip.specs.declared.Pattern.{Pattern}
 use Rattle.chip.specs.declared.Registers.{Registers}
@@ -16,7 +16,7 @@ use Rattle.chip.specs.Parts.{with-regs, with-ctrl1, with-btr0, with-btr1, with-
 use Rattle.chip.specs.Parts.{with-counters, with-filters, with-masks, with-rx, with-tx, with-history, with-time}
 use Rattle.commands.specs.Verbs.{readMessageWithTime, readMessage, readDataWithTime, readData, readErr, readIntf, readHistory}
 use Rattle.commands.specs.Verbs.{abortTransmission, clearTransmit, masterReset, resetTime, clearReceive, writeMessage, writeCtrl0 as writesCtrl0}
-use Rattle.commands.specs.Verbs.{writeCtrl1, writeBtr0, writeBtr1, writeInte, writeStatfe, writeGpine, writeRec as writesRec, writeTec as writesTec}
+use Rattle.commands.specs.Verbs.{writeCtrl1, writeBtr0, writeBtr1, writeInte, writeStatfe, writeGpine, writeRec, writeTec}
 use Rattle.commands.specs.Verbs.{writeFilter, writeMask}
 use Rattle.modes.specs.Modes.{writeCtrl0}
 use Rattle.flags.specs.Reset.{reset}
@@ -67,7 +67,7 @@ timeReset d = with-time d 0
 unfoldable pub messageWritten : Device → List ℕ → Device
 messageWritten d bytes =
     pick (eqb (length bytes) 0) d
-    (with-tx d (put (d .tx) (record { bytes = stored (messageRead (drop 1 bytes) .message) })))
+    (with-tx d (put (d .tx) (record { bytes = stored (messageOf (drop 1 bytes) .message) })))
 
 unfoldable pub filterWritten : Device → ℕ → Pattern → Device
 filterWritten d k p = with-filters d (set (d .filters) (k % 8) p)
@@ -77,12 +77,12 @@ maskWritten d k p = with-masks d (set (d .masks) (k % 8) p)
 
 -- 0x24 and 0x26, "for test purposes"
 unfoldable pub recWritten : Device → ℕ → Device
-recWritten d value = with-counters d (writeRec (d .counters) value)
+recWritten d value = with-counters d (testRec (d .counters) value)
 
 unfoldable pub tecWritten : Device → ℕ → Device
-tecWritten d value = with-counters d (writeTec (d .counters) value)
+tecWritten d value = with-counters d (testTec (d .counters) value)
 
--- the commands that do more than show or write a register, and what each does
+-- the commands that have a rule of their own, and what each does
 abbrev pub deeds : Device → ℕ → List ℕ → List (ℕ × Device)
 deeds d k bytes =
     (readMessageWithTime, messageTaken d) ∷
@@ -97,8 +97,8 @@ deeds d k bytes =
     (clearReceive, receiveCleared d) ∷
     (writeMessage, messageWritten d bytes) ∷
     (writesCtrl0, writeCtrl0 d (byte bytes 2)) ∷
-    (writesRec, recWritten d (byte bytes 2)) ∷
-    (writesTec, tecWritten d (byte bytes 2)) ∷
+    (writeRec, recWritten d (byte bytes 2)) ∷
+    (writeTec, tecWritten d (byte bytes 2)) ∷
     (writeFilter, filterWritten d k (pattern bytes)) ∷
     (writeMask, maskWritten d k (pattern bytes)) ∷
     []

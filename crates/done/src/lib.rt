@@ -48,7 +48,7 @@ fn message_written(d: Device, bytes: &[u8]) -> Device
     if bytes.len() == 0 {
         return d;
     }
-    let reading = sent::read_message(&bytes[1..]);
+    let reading = sent::message_of(&bytes[1..]);
     let message = reading.message;
     let bytes = sent::stored(message);
     let tx = d.tx;
@@ -120,7 +120,7 @@ fn time_reset(d: Device) -> Device
 fn rec_written(d: Device, value: u8) -> Device
     ensures { λ r. ⌜ r ≡ recWritten d value ⌝ }
 {
-    let c = counters::write_rec(d.counters, value);
+    let c = counters::test_rec(d.counters, value);
     let mut e = d;
     e.counters = c;
     e
@@ -129,7 +129,7 @@ fn rec_written(d: Device, value: u8) -> Device
 fn tec_written(d: Device, value: u8) -> Device
     ensures { λ r. ⌜ r ≡ tecWritten d value ⌝ }
 {
-    let c = counters::write_tec(d.counters, value);
+    let c = counters::test_tec(d.counters, value);
     let mut e = d;
     e.counters = c;
     e

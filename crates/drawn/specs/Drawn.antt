@@ -5,26 +5,27 @@ use lib.Bits.{bitAnd}
 use lib.Dec.{eqb, ltb}
 use Rattle.base.specs.Bit.{isSet}
 use Rattle.base.specs.Pick.{pick, flag}
-use Rattle.levels.specs.Levels.{errw, errp, errBits}
+use Rattle.levels.specs.Levels.{errw, errp, levelBits}
+use Rattle.fifo.specs.Queue.{full, isEmpty}
 use Rattle.chip.specs.declared.Device.{Device}
 use Rattle.chip.specs.State.{enabled, idle}
 
 -- STATF, bits 7 to 0: TXMTY, TXFULL, TXHISF, ERRW, ERRP, BUSOFF, RXFMTY, RXFFULL
 unfoldable pub statf : Device → ℕ
 statf d =
-    flag (eqb (d .tx .count) 0) * 128 + flag (eqb (d .tx .count) 8) * 64 + flag (eqb (d .history .count) 8) * 32 +
+    flag (isEmpty (d .tx)) * 128 + flag (full (d .tx)) * 64 + flag (full (d .history)) * 32 +
     flag (errw (d .counters)) * 16 + flag (errp (d .counters)) * 8 + flag (d .counters .busoff) * 4 +
-    flag (eqb (d .rx .count) 0) * 2 + flag (eqb (d .rx .count) 8)
+    flag (isEmpty (d .rx)) * 2 + flag (full (d .rx))
 
 -- ERR: BUSOFF, TXERRP and RXERRP from the counters, then the five kinds of error met since the last read
 unfoldable pub err : Device → ℕ
-err d = errBits (d .counters) + d .regs .errs % 32
+err d = levelBits (d .counters) + d .regs .errs % 32
 
 -- TSTAT: 11 while one runs, "00: Transmission not enabled", "01: … FIFO is empty", "10: Waiting to transmit or re-transmit"
 unfoldable pub tstat : Device → ℕ
 tstat d =
     pick (eqb (d .sending) idle)
-    (pick (enabled d) (pick (eqb (d .tx .count) 0) 1 2) 0)
+    (pick (enabled d) (pick (isEmpty (d .tx)) 1 2) 0)
     3
 
 -- MESSTAT: FILHIT3..0, MTAG1..0, TSTAT1..0

@@ -15,13 +15,13 @@ pub fn statf(d: Device) -> u8
 {
     let c = d.counters;
     base::flag(d.tx.count == 0) * 128
-        + base::flag(d.tx.count == 8) * 64
-        + base::flag(d.history.count == 8) * 32
+        + base::flag(8 <= d.tx.count) * 64
+        + base::flag(8 <= d.history.count) * 32
         + base::flag(levels::errw(c)) * 16
         + base::flag(levels::errp(c)) * 8
         + base::flag(c.busoff) * 4
         + base::flag(d.rx.count == 0) * 2
-        + base::flag(d.rx.count == 8)
+        + base::flag(8 <= d.rx.count)
 }
 
 // The error register.
@@ -29,7 +29,7 @@ pub fn err(d: Device) -> u8
     ensures { λ r. ⌜ r ≡ err d ⌝ }
 {
     let c = d.counters;
-    levels::err_bits(c) + d.regs.errs % 32
+    levels::level_bits(c) + d.regs.errs % 32
 }
 
 fn tstat(d: Device) -> u8

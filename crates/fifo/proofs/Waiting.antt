@@ -1,5 +1,5 @@
 -- What waits after a message was put or taken. Assumes nothing.
-use mathlib.Core.Path.{_≡_, refl, ap, _∙_}
+use mathlib.Core.Path.{_≡_, ap, _∙_}
 use mathlib.Core.List.{List, [], _∷_, _++_}
 use Prim.Native.Nat.{ℕ, suc, _+_, _-_, _%_, _<_}
 use native.Mathlib.Omega.{arith}
@@ -11,11 +11,7 @@ use lib.Seq.{getD-set-same, getD-set-other}
 use Rattle.base.proofs.Lists.{tabulate-same, tabulate-more, shift}
 use Rattle.fifo.specs.declared.Fifo.{Fifo}
 use Rattle.fifo.specs.declared.Message.{Message}
-use Rattle.fifo.specs.Queue.{empty, absent, place, waiting, put, take, next}
-
-pub empty-waits : waiting empty ≡ []
-unfolding empty
-empty-waits = refl
+use Rattle.fifo.specs.Queue.{absent, place, waiting, put, take, next}
 
 -- a message that finds room waits behind the others
 pub put-waits : (q : Fifo) (m : Message) → length (q .items) ≡ 8 → q .count < 8 → waiting (put q m) ≡ waiting q ++ (m ∷ [])

@@ -5,7 +5,7 @@ use Prim.Native.Nat.{ℕ, _+_, _-_, _%_}
 use lib.Dec.{eqb, leb, ltb}
 use lib.ListN.{getD, set, replicate}
 use Rattle.base.specs.Pick.{pick}
-use Rattle.base.proofs.Lists.{tabulate}
+use Rattle.base.specs.Tabulate.{tabulate}
 use Rattle.fifo.specs.declared.Fifo.{Fifo}
 use Rattle.fifo.specs.declared.Message.{Message}
 
@@ -28,12 +28,18 @@ place q k = (q .first + k) % 8
 abbrev pub waiting : Fifo → List Message
 waiting q = tabulate (λ k. getD (q .items) (place q k) absent) 0 (q .count)
 
--- "eight messages wait"
+-- "eight messages wait", and none, by how many there are
+abbrev pub eightWait : ℕ → Bool
+eightWait count = leb 8 count
+
+abbrev pub noneWaits : ℕ → Bool
+noneWaits count = eqb count 0
+
 abbrev pub full : Fifo → Bool
-full q = leb 8 (q .count)
+full q = eightWait (q .count)
 
 abbrev pub isEmpty : Fifo → Bool
-isEmpty q = eqb (q .count) 0
+isEmpty q = noneWaits (q .count)
 
 -- A message comes last; where eight wait, nothing is stored.
 unfoldable pub put : Fifo → Message → Fifo

@@ -7,7 +7,7 @@ ghost use Rattle.base.specs.Pick.{pick};
 ghost use Rattle.filter.specs.Match.{agree, byteOf, matches};
 ghost use Rattle.filter.specs.Lowest.{lowest, filhit};
 
-// The filter that let a frame in.
+// The lowest filter that matches, if one does.
 pub enum Hit {
     Filter(u8),
     Nothing,

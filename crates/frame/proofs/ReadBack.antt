@@ -1,19 +1,17 @@
 -- What a host reads in the sixteen bytes is what arrived: so two frames that differ in identifier, kind, remote, length code,
--- data or time tag have different bytes. Assumes nothing.
+-- data, time tag or FILHIT2..0 have different bytes. Assumes nothing.
 use mathlib.Core.Path.{_≡_, refl, ap, sym, _∙_}
 use mathlib.Core.Bool.{Bool, true}
 use mathlib.Core.List.{List}
-use Prim.Native.Nat.{ℕ, _+_, _*_, _/_, _%_, _^_, _≤_}
+use Prim.Native.Nat.{ℕ, _+_, _*_, _/_, _%_, _^_}
 use native.Mathlib.Nat.{mod-eq-of-lt}
 use native.Mathlib.Omega.{arith}
-use lib.ListN.{length, take}
-use lib.Seq.{take-at, length-take-le}
 use Rattle.base.specs.Bit.{bits, isSet}
 use Rattle.base.specs.Pick.{pick, flag}
 use Rattle.base.proofs.Booleans.{flag-le, flag-back}
 use Rattle.frame.specs.declared.Header.{Header}
-use Rattle.frame.specs.Length.{possible, dataBytes, dataOf}
-use Rattle.frame.specs.Tables.{idBits, idFrom, readId}
+use Rattle.frame.specs.Length.{possible, dataOf}
+use Rattle.frame.specs.Tables.{idBits, idFrom, idAsRead}
 use Rattle.frame.specs.Received.{received, headerIn, timeIn, filterIn, dataIn}
 use Rattle.frame.proofs.Parts.{third-bit, last-bit, id-back, code-fits, id-bits-lt, id-bits-back, header-path}
 
@@ -27,7 +25,7 @@ module _ (h : Header) (bytes : List ℕ) (time filhit : ℕ) where
   filter-back = omega arith
 
   pub data-back : dataIn (received h bytes time filhit) ≡ dataOf h bytes
-  unfolding received readId
+  unfolding received idAsRead
   data-back = refl
 
   module _ (ok : possible h ≡ true) where
@@ -53,7 +51,7 @@ module _ (h : Header) (bytes : List ℕ) (time filhit : ℕ) where
     read-back = id-back n ide ide rtr (flag-le (h .extended)) (flag-le (h .extended)) (flag-le (h .remote)) (id-bits-lt h ok)
 
     pub header-back : headerIn (received h bytes time filhit) ≡ h
-    unfolding received readId headerIn
+    unfolding received idAsRead headerIn
     header-back =
         header-path (headerIn (received h bytes time filhit)) h
         (ap (λ (t : Bool). pick t read (read / 2 ^ 18)) kind-back ∙ ap (λ (m : ℕ). pick (h .extended) m (m / 2 ^ 18)) read-back ∙ id-bits-back h ok)
@@ -77,8 +75,3 @@ received-once h h′ b b′ t t′ f f′ ok ok′ e = record {
   time = sym (time-back h b t f) ∙ ap timeIn e ∙ time-back h′ b′ t′ f′;
   filter = sym (filter-back h b t f) ∙ ap filterIn e ∙ filter-back h′ b′ t′ f′;
 }
-
--- the data itself is the start of the eight bytes
-pub data-start : (h : Header) (bytes : List ℕ) → dataBytes h ≤ length bytes → take (dataBytes h) (dataOf h bytes) ≡ take (dataBytes h) bytes
-unfolding dataOf
-data-start h bytes enough = take-at (take (dataBytes h) bytes) _ (dataBytes h) (length-take-le (dataBytes h) bytes enough)

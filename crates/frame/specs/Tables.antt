@@ -34,8 +34,8 @@ idToSend h =
     (record { bytes = standardToSend h ++ 0 ∷ 0 ∷ []; count = 2 })
 
 -- Table 5, bytes 4 to 7, for both kinds: ID28..21; ID20..18, SRR, IDE, ID17..15; ID14..7; ID6..0, RTR
-unfoldable pub readId : Header → List ℕ
-readId h =
+unfoldable pub idAsRead : Header → List ℕ
+idAsRead h =
     bits 28 21 (idBits h) ∷
     (bits 20 18 (idBits h) * 32 + flag (h .extended) * 16 + flag (h .extended) * 8 + bits 17 15 (idBits h)) ∷
     bits 14 7 (idBits h) ∷

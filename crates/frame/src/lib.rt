@@ -5,7 +5,7 @@ ghost use Prim.Native.Nat.{_≤_};
 ghost use lib.ListN.{length};
 ghost use Rattle.base.specs.Bit.{bits};
 ghost use Rattle.frame.specs.Length.{dataLength, dataBytes, possible, dataFits, dataOf};
-ghost use Rattle.frame.specs.Tables.{idBits, idToSend, readId, compared, idFrom};
+ghost use Rattle.frame.specs.Tables.{idBits, idToSend, idAsRead, compared, idFrom};
 ghost use Rattle.frame.specs.Received.{received, headerIn, dataIn};
 
 // What a frame says before its data.
@@ -127,7 +127,8 @@ fn id_parts(h: Header) -> IdParts
     }
 }
 
-// The identifier in 0x12: Table 2.
+// The identifier in 0x12: Table 2. For whoever writes a message, a driver or another caller: no crate here calls it, and 01's
+// worked numbers are computed from its definition.
 pub fn id_to_send(h: Header) -> IdBytes
     ensures { λ r. ⌜ r ≡ idToSend h ⌝ }
 {
@@ -154,7 +155,7 @@ pub fn id_to_send(h: Header) -> IdBytes
 
 // The identifier as 0x42 to 0x48 read it: Table 5, bytes 4 to 7.
 pub fn id_as_read(h: Header) -> [u8; 4]
-    ensures { λ r. ⌜ r ≡ readId h ⌝ }
+    ensures { λ r. ⌜ r ≡ idAsRead h ⌝ }
 {
     let p = id_parts(h);
     let ide = base::flag(h.extended);

@@ -7,7 +7,7 @@ use Rattle.chip.specs.declared.Device.{Device}
 use Rattle.host.specs.declared.Outcome.{Outcome}
 use Rattle.refused.specs.declared.Verdict.{Verdict}
 use Rattle.refused.specs.declared.Verdict.the-variants.{Refused, Accepted}
-use Rattle.refused.specs.Refused.{judged}
+use Rattle.refused.specs.Refused.{verdict}
 use Rattle.shown.specs.Shown.{shows}
 use Rattle.done.specs.Done.{does}
 
@@ -18,7 +18,7 @@ outcome d bytes (Accepted r) = record { device = does d (r .verb) (r .index) byt
 
 -- the device, the transfer's bytes, the lent buffer's length
 unfoldable pub transfer : Device → List ℕ → ℕ → Outcome
-transfer d bytes room = outcome d bytes (judged d bytes room)
+transfer d bytes room = outcome d bytes (verdict d bytes room)
 
 -- "A success fills the start of the buffer with the reply; later bytes stay."
 abbrev pub reply : Device → Verdict → List ℕ → List ℕ
@@ -26,4 +26,4 @@ reply d (Refused n) buffer = buffer
 reply d (Accepted r) buffer = putOf (take (r .out) (shows d (r .verb) (r .index))) buffer
 
 unfoldable pub replyAfter : Device → List ℕ → List ℕ → List ℕ
-replyAfter d bytes buffer = reply d (judged d bytes (length buffer)) buffer
+replyAfter d bytes buffer = reply d (verdict d bytes (length buffer)) buffer

@@ -11,7 +11,7 @@ use Rattle.chip.specs.declared.Device.{Device}
 use Rattle.chip.specs.State.{loopback, monitor, sleep, initialization, idle}
 use Rattle.receive.specs.declared.Arrival.{Arrival}
 use Rattle.receive.specs.declared.Arrival.the-variants.{A1, A2, A3}
-use Rattle.receive.specs.Receive.{reason as filtersAndRoom}
+use Rattle.receive.specs.Receive.{filtersAndRoom}
 use Rattle.transmit.specs.Transmit.{canBegin}
 use Rattle.judged.specs.declared.Answer.{Answer}
 use Rattle.judged.specs.declared.Answer.the-variants.{Done, Arrived}

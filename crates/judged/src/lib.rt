@@ -86,7 +86,7 @@ fn takes_no_frames(acting: u8) -> bool
     }
 }
 
-// A monitor acknowledges nothing, so it takes what another node did.
+// A monitor acknowledges nothing, so it takes only what another node acknowledged.
 fn unacknowledged(acting: u8, acknowledged: bool) -> bool
     ensures { λ r. ⌜ r ≡ unacknowledged acting acknowledged ⌝ }
 {
@@ -104,7 +104,7 @@ pub fn reason(d: Device, h: Header, acknowledged: bool, payload: [u8; 8]) -> Arr
     let deaf = takes_no_frames(d.acting);
     let off = d.counters.busoff;
     let alone = unacknowledged(d.acting, acknowledged);
-    let what = receive::reason(d, h, payload);
+    let what = receive::filters_and_room(d, h, payload);
     if deaf {
         return Arrival::A1;
     }
@@ -127,7 +127,7 @@ fn echo(d: Device) -> Answer
         let bytes = m.bytes;
         let h = frame::header_in(bytes);
         let payload = frame::data_in(bytes);
-        Answer::Arrived(receive::reason(d, h, payload))
+        Answer::Arrived(receive::filters_and_room(d, h, payload))
     } else {
         Answer::Done
     }

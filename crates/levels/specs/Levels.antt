@@ -30,8 +30,8 @@ unfoldable pub errp : Counters → Bool
 errp c = rxerrp c || txerrp c
 
 -- ERR bits 7 to 5: BUSOFF, TXERRP, RXERRP
-unfoldable pub errBits : Counters → ℕ
-errBits c = flag (c .busoff) * 128 + flag (txerrp c) * 64 + flag (rxerrp c) * 32
+unfoldable pub levelBits : Counters → ℕ
+levelBits c = flag (c .busoff) * 128 + flag (txerrp c) * 64 + flag (rxerrp c) * 32
 
 -- 0xEC: in bus off TEC "reads 255"
 unfoldable pub tecShown : Counters → ℕ

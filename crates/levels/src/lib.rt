@@ -1,7 +1,7 @@
 // What the registers show of the error counters: the levels they have reached, and the counts in bus off.
 ghost use mathlib.Core.Path.{_≡_};
 ghost use Prim.Native.Nat.{min};
-ghost use Rattle.levels.specs.Levels.{warns, rxerrp, txerrp, errw, errp, errBits, tecShown, groupsShown};
+ghost use Rattle.levels.specs.Levels.{warns, rxerrp, txerrp, errw, errp, levelBits, tecShown, groupsShown};
 use counters::Counters;
 
 fn warns(n: u8) -> bool
@@ -43,8 +43,8 @@ pub fn errp(c: Counters) -> bool
 }
 
 // Bits 7 to 5 of ERR.
-pub fn err_bits(c: Counters) -> u8
-    ensures { λ r. ⌜ r ≡ errBits c ⌝ }
+pub fn level_bits(c: Counters) -> u8
+    ensures { λ r. ⌜ r ≡ levelBits c ⌝ }
 {
     base::flag(c.busoff) * 128 + base::flag(txerrp(c)) * 64 + base::flag(rxerrp(c)) * 32
 }

@@ -2,12 +2,11 @@
 use mathlib.Core.Bool.{Bool, not, _&&_}
 use Prim.Native.Nat.{ℕ, _+_, _%_}
 use lib.Dec.{eqb}
-use Rattle.base.specs.Bit.{isSet}
 use Rattle.base.specs.Pick.{pick}
 use Rattle.fifo.specs.Queue.{isEmpty}
 use Rattle.chip.specs.declared.Device.{Device}
 use Rattle.chip.specs.Parts.{with-regs, with-ctrl0, with-acting}
-use Rattle.chip.specs.State.{modeOf, sleep, monitor, idle, wakeup}
+use Rattle.chip.specs.State.{modeOf, sleep, monitor, idle, resetBit, wakeup}
 use Rattle.flags.specs.Flags.{raised, mchg, wakeupFlag}
 use Rattle.flags.specs.Reset.{reset}
 use Rattle.transmit.specs.Transmit.{stopped}
@@ -21,10 +20,11 @@ changed d mode = raised (with-acting d mode) mchg
 
 -- 000, CTRL0: "Setting this bit causes HI-3110 reset to occur", and the bit stays until the host clears it.
 -- "Any other mode write withdraws a waiting sleep" by what MODE then names. "If it names a mode other than the acting one, it acts at
--- once and ends a running transmission as an abort does, TXEN and TX1M kept; if not, no transmission is touched". A sleep is only waited for.
+-- once and ends a running transmission as an abort does, TXEN and TX1M kept; if not, no transmission is touched". A sleep is only waited for;
+-- "A sleep write while asleep leaves the mode as it is; the byte's other bits act."
 unfoldable pub writeCtrl0 : Device → ℕ → Device
 writeCtrl0 d v =
-    pick (isSet 3 v) (put-ctrl0 (reset d) 0x88)
+    pick (resetBit v) (put-ctrl0 (reset d) 0x88)
     (pick (eqb (modeOf v) sleep) (put-ctrl0 d v)
     (pick (eqb (modeOf v) (d .acting)) (put-ctrl0 d v)
     (changed (stopped (put-ctrl0 d v)) (modeOf v))))

@@ -30,11 +30,11 @@ module _ (M : Type 1) where
   pub counters·eleven-recessive : OneResult M counters.eleven_recessive.ended counters.eleven_recessive.spec
   counters·eleven-recessive = result counters.eleven_recessive.clauses (λ _. Rules.elevenRecessive) refl
 
-  pub counters·write-rec : OneResult M counters.write_rec.ended counters.write_rec.spec
-  counters·write-rec = result counters.write_rec.clauses (λ _. Rules.writeRec) refl
+  pub counters·test-rec : OneResult M counters.test_rec.ended counters.test_rec.spec
+  counters·test-rec = result counters.test_rec.clauses (λ _. Rules.testRec) refl
 
-  pub counters·write-tec : OneResult M counters.write_tec.ended counters.write_tec.spec
-  counters·write-tec = result counters.write_tec.clauses (λ _. Rules.writeTec) refl
+  pub counters·test-tec : OneResult M counters.test_tec.ended counters.test_tec.spec
+  counters·test-tec = result counters.test_tec.clauses (λ _. Rules.testTec) refl
 
   pub counters·lent·receive-error : OneResult M counters.lent.receive_error.ended counters.lent.receive_error.spec
   counters·lent·receive-error = lent Counters.the-type Rules.receiveError
@@ -55,8 +55,8 @@ module _ (M : Type 1) where
   pub levels·errp : OneResult M levels.errp.ended levels.errp.spec
   levels·errp = result levels.errp.clauses (λ _. Levels.errp) refl
 
-  pub levels·err-bits : OneResult M levels.err_bits.ended levels.err_bits.spec
-  levels·err-bits = result levels.err_bits.clauses (λ _. Levels.errBits) refl
+  pub levels·level-bits : OneResult M levels.level_bits.ended levels.level_bits.spec
+  levels·level-bits = result levels.level_bits.clauses (λ _. Levels.levelBits) refl
 
   pub levels·tec-shown : OneResult M levels.tec_shown.ended levels.tec_shown.spec
   levels·tec-shown = result levels.tec_shown.clauses (λ _. Levels.tecShown) refl

@@ -29,15 +29,15 @@ module _ (M : Type 1) where
   pub receive·hit : OneResult M receive.hit.ended receive.hit.spec
   receive·hit = result receive.hit.clauses (λ _. Receive.hit) refl
 
-  pub receive·reason : OneResult M receive.reason.ended receive.reason.spec
-  receive·reason = result receive.reason.clauses (λ _. Receive.reason) refl
+  pub receive·filters-and-room : OneResult M receive.filters_and_room.ended receive.filters_and_room.spec
+  receive·filters-and-room = result receive.filters_and_room.clauses (λ _. Receive.filtersAndRoom) refl
 
   pub receive·arrived : OneResult M receive.arrived.ended receive.arrived.spec
   receive·arrived = result receive.arrived.clauses (λ _. Receive.arrived) refl
 
   -- ---- refused
   pub refused·judge : OneResult M refused.judge.ended refused.judge.spec
-  refused·judge = result refused.judge.clauses (λ _ d bytes room. Refused.judged d (now bytes) room) refl
+  refused·judge = result refused.judge.clauses (λ _ d bytes room. Refused.verdict d (now bytes) room) refl
 
   -- ---- shown
   pub shown·shows : OneResult M shown.shows.ended shown.shows.spec

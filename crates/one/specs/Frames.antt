@@ -57,7 +57,7 @@ module _ (M : Type 1) where
   frame·id-to-send = result frame.id_to_send.clauses (λ _. Tables.idToSend) refl
 
   pub frame·id-as-read : OneResult M frame.id_as_read.ended frame.id_as_read.spec
-  frame·id-as-read = result frame.id_as_read.clauses (λ _. Tables.readId) refl
+  frame·id-as-read = result frame.id_as_read.clauses (λ _. Tables.idAsRead) refl
 
   pub frame·compared : OneResult M frame.compared.ended frame.compared.spec
   frame·compared = result frame.compared.clauses (λ _. Tables.compared) refl
@@ -78,8 +78,8 @@ module _ (M : Type 1) where
   pub sent·right-length : OneResult M sent.right_length.ended sent.right_length.spec
   sent·right-length = result sent.right_length.clauses (λ _ s. Sent.rightLength (now s)) refl
 
-  pub sent·read-message : OneResult M sent.read_message.ended sent.read_message.spec
-  sent·read-message = result sent.read_message.clauses (λ _ s. Sent.readMessage (now s)) refl
+  pub sent·message-of : OneResult M sent.message_of.ended sent.message_of.spec
+  sent·message-of = result sent.message_of.clauses (λ _ s. Sent.messageOf (now s)) refl
 
   pub sent·stored : OneResult M sent.stored.ended sent.stored.spec
   sent·stored = result sent.stored.clauses (λ _. Sent.stored) refl

@@ -26,11 +26,11 @@ use Rattle.commands.specs.declared.Row.{Row}
 use Rattle.commands.specs.Table.{rows, lookup}
 use Rattle.refused.specs.declared.Verdict.{Verdict}
 use Rattle.refused.specs.declared.Verdict.the-variants.{Refused as RefusedTransfer, Accepted}
-use Rattle.refused.specs.Refused.{refusal, rowJudged, judged, lengthFits, outsideSetUp, findsFull, findsNone}
+use Rattle.refused.specs.Refused.{refusal, rowJudged, verdict, lengthFits, outsideSetUp, findsFull, findsNone}
 use Rattle.host.specs.Transfer.{transfer, outcome as transferred}
 use Rattle.promise.specs.Promises.{EveryInputIsAnswered, TheFirstNumberIsGiven, EachNumberExactly, ARefusalChangesNothing}
 use Rattle.promise.specs.Sequence.{spi, wire, shipped as step, number}
-use Rattle.promise.specs.Numbers.{row, lowest, found, numberGiven, Untouched}
+use Rattle.promise.specs.Numbers.{row, firstSaying, found, numberGiven, Untouched}
 use Rattle.promise.proofs.Steps.{by-transfer, by-event}
 use Rattle.promise.proofs.Lowest.{lowest-first, first-lowest, lowest-le}
 
@@ -69,10 +69,10 @@ module _ (d : Device) (bytes buffer : List ℕ) where
   judged-number true false Nothing = refl
   judged-number true false (At r) = number-kept (eqb (refusal d r bytes (length buffer)) 0) (refusal d r bytes (length buffer)) r refl
 
-  transfer-first : numberGiven step d (spi bytes buffer) ≡ lowest (row d (spi bytes buffer))
-  unfolding transfer judged tabled
+  transfer-first : numberGiven step d (spi bytes buffer) ≡ firstSaying (row d (spi bytes buffer))
+  unfolding transfer verdict tabled
   transfer-first =
-      number-of-verdict d bytes (judged d bytes (length buffer))
+      number-of-verdict d bytes (verdict d bytes (length buffer))
       ∙ judged-number (proper d) (eqb (length bytes) 0) (lookup rows (byte bytes 1))
 
 -- ---- events
@@ -112,7 +112,7 @@ answer-number false q a e = refl
 answer-number true true a e = refl
 answer-number true false a e = e
 
-event-first : (d : Device) (e : Event) (payload : List ℕ) → numberGiven step d (wire e payload) ≡ lowest (row d (wire e payload))
+event-first : (d : Device) (e : Event) (payload : List ℕ) → numberGiven step d (wire e payload) ≡ firstSaying (row d (wire e payload))
 unfolding event answer
 event-first d e payload =
     number-of-answer d e payload (answer d e payload)

@@ -6,15 +6,15 @@ use Prim.Native.Nat.{ℕ}
 use borrow.Author.Tests.{eqb-true}
 use lib.Dec.{eqb, leb, ltb}
 use lib.ListN.{length}
-use Rattle.base.specs.Bit.{byte, isSet}
-use Rattle.counters.specs.Rules.{writeRec, writeTec}
+use Rattle.base.specs.Bit.{byte}
+use Rattle.counters.specs.Rules.{testRec, testTec}
 use Rattle.fifo.specs.declared.Message.{Message}
 use Rattle.fifo.specs.Queue.{empty, put}
 use Rattle.filter.specs.Lowest.{filhit}
 use Rattle.chip.specs.declared.Device.{Device}
 use Rattle.chip.specs.declared.Registers.{Registers}
 use Rattle.chip.specs.Parts.{with-tx}
-use Rattle.chip.specs.State.{fresh, modeOf, sleep, idle, first-in-fifo, alone}
+use Rattle.chip.specs.State.{fresh, modeOf, sleep, idle, firstInFifo, alone, resetBit}
 use Rattle.flags.specs.Flags.{raised}
 use Rattle.flags.specs.Reset.{reset}
 use Rattle.transmit.specs.Transmit.{aborted, cleared, leftAlone, stopped}
@@ -48,14 +48,14 @@ module _ (d : Device) (h : InRange d) where
     h .4,
     h .5,
     h .6,
-    grows (eqb (d .sending) first-in-fifo) (d .tx .count) (put (d .tx) m .count) (leb (d .sending) alone) (put-grows (ltb (d .tx .count) 8) (d .tx) m refl) (h .7),
+    grows (eqb (d .sending) firstInFifo) (d .tx .count) (put (d .tx) m .count) (leb (d .sending) alone) (put-grows (ltb (d .tx .count) 8) (d .tx) m refl) (h .7),
     h .8,
   )
 
   ctrl0-in : (v : ℕ) → InRange (writeCtrl0 d v)
   unfolding writeCtrl0 changed raised stopped reset fresh modeOf
   ctrl0-in v =
-      pick-under InRange (isSet 3 v) _ _
+      pick-under InRange (resetBit v) _ _
       (λ resets. (empty-fits, empty-fits, empty-fits, h .3, h .4, refl, refl, refl, refl))
       (λ stays. pick-under InRange (eqb (modeOf v) sleep) _ _
       (λ sleeps. (h .0, h .1, h .2, h .3, h .4, h .5, h .6, h .7, rw sleeps (acting-le (d .acting) (d .regs .ctrl0) (h .8))))
@@ -72,8 +72,8 @@ module _ (d : Device) (h : InRange d) where
       ((h .0, h .1, h .2, h .3, refl, h .5, h .6, h .7, h .8) and h and h and h and h and h and h and h and tt)
       (λ out. h)
 
-  tec-groups : (value : ℕ) → leb (writeTec (d .counters) value .groups) 128 ≡ true
-  unfolding writeTec
+  tec-groups : (value : ℕ) → leb (testTec (d .counters) value .groups) 128 ≡ true
+  unfolding testTec
   tec-groups value = pick-under Grouped (d .counters .busoff) _ _ (λ off. h .3) (λ on. h .3)
 
   message-in : (bytes : List ℕ) → InRange (messageWritten d bytes)
@@ -82,7 +82,7 @@ module _ (d : Device) (h : InRange d) where
 
   -- every command
   pub does-in : (v k : ℕ) (bytes : List ℕ) → InRange (does d v k bytes)
-  unfolding does messageTaken entryTaken aborted stopped timeReset receiveCleared recWritten tecWritten writeRec filterWritten maskWritten
+  unfolding does messageTaken entryTaken aborted stopped timeReset receiveCleared recWritten tecWritten testRec filterWritten maskWritten
   does-in v k bytes =
       let taken : InRange (messageTaken d) = (take-fits (d .rx) (h .0), h .1, h .2, h .3, h .4, h .5, h .6, h .7, h .8) in
       among-keeps (λ v e. InRange e) v (deeds d k bytes) (registerChanged d v (byte bytes 2))

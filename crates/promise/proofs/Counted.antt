@@ -1,12 +1,12 @@
 -- REC, TEC, bus off and its groups along a sequence. Assumes nothing.
 use mathlib.Core.Path.{_≡_, refl, ap, _∙_}
-use mathlib.Core.Bool.{Bool, true, false, not, _&&_}
+use mathlib.Core.Bool.{Bool, true, false, _&&_}
 use mathlib.Core.List.{List}
 use Prim.Native.Nat.{ℕ}
 use lib.Dec.{eqb}
 use Rattle.base.specs.Bit.{byte}
 use Rattle.base.specs.Pick.{pick}
-use Rattle.counters.specs.Rules.{zeroed, goodFrame, transmitError, writeRec, writeTec}
+use Rattle.counters.specs.Rules.{zeroed, goodFrame, testRec, testTec}
 use Rattle.frame.specs.declared.Header.{Header}
 use Rattle.chip.specs.declared.Device.{Device}
 use Rattle.chip.specs.State.{fresh, normal, monitor, bor}
@@ -19,9 +19,9 @@ use Rattle.events.specs.declared.Event.{Event}
 use Rattle.events.specs.declared.Event.the-variants.{GoodFrame, ReceiveError, DominantBit, TransmitError, Begun, Completed, ArbitrationLost, ElevenRecessive}
 use Rattle.events.specs.declared.Event.the-variants.{BusQuiet, BusActivity, Ticks, TxenPin, MasterReset, Unknown}
 use Rattle.judged.specs.declared.Answer.the-variants.{Done}
-use Rattle.changed.specs.Changed.{after, reachesBuffer, frameAfter, heard, countedFrame, echoed, errorReceived, countedReceiveError, dominantMet, errorSent}
+use Rattle.changed.specs.Changed.{after, reachesTemporary, frameAfter, heard, countedFrame, echoed, receiveErrorMet, countedReceiveError, dominantMet, transmitErrorMet}
 use Rattle.changed.specs.Changed.{countedTransmitError, recessiveMet, ticked, pinSet}
-use Rattle.commands.specs.Verbs.{writeRec as writesRec, writeTec as writesTec}
+use Rattle.commands.specs.Verbs.{writeRec, writeTec}
 use Rattle.promise.specs.Promises.{CountersAreTheRulesSum}
 use Rattle.promise.specs.Sequence.{Input, spi, wire, answered, Step, shipped as step}
 use Rattle.promise.specs.Sums.{counted, countedEvent}
@@ -38,11 +38,6 @@ frame-pick true false x y = refl
 frame-pick false true x y = refl
 frame-pick false false x y = refl
 
-error-pick : {A : Type 0} (counts monitors : Bool) (x y : A) → pick counts (pick monitors y x) y ≡ pick (counts && not monitors) x y
-error-pick true true x y = refl
-error-pick true false x y = refl
-error-pick false monitors x y = refl
-
 module _ (d : Device) where
   abbrev Counts : Input → Step → Type 0
   Counts i s = s .device .counters ≡ counted (d .acting) (bor d) (d .counters) i (s .given)
@@ -51,22 +46,22 @@ module _ (d : Device) where
   on-spi bytes buffer =
       by-command
       (λ ok asked (w : Watched). w .counters ≡ pick ok
-      (pick (asked writesRec) (writeRec (d .counters) (byte bytes 2))
-      (pick (asked writesTec) (writeTec (d .counters) (byte bytes 2))
+      (pick (asked writeRec) (testRec (d .counters) (byte bytes 2))
+      (pick (asked writeTec) (testTec (d .counters) (byte bytes 2))
       (d .counters)))
       (d .counters))
       d bytes buffer
       refl
       (refl and refl and refl and refl and refl and refl and refl and tt)
-      (λ v none. rw (none writesRec refl, none writesTec refl))
+      (λ v none. rw (none writeRec refl, none writeTec refl))
 
   after-counters : (e : Event) → after d e .counters ≡ countedEvent (d .acting) (bor d) (d .counters) e (answered Done)
-  unfolding after errorReceived countedReceiveError busError raised dominantMet errorSent countedTransmitError stopped begun
+  unfolding after receiveErrorMet countedReceiveError busError raised dominantMet transmitErrorMet countedTransmitError stopped begun
       sent countedCompletion recessiveMet ticked pinSet reset
   after-counters (GoodFrame h acknowledged n) = refl
   after-counters (ReceiveError kind) = refl
   after-counters DominantBit = pick-part (λ (e : Device). e .counters) (eqb (d .acting) monitor) _ _
-  after-counters (TransmitError kind counts) = error-pick counts (eqb (d .acting) monitor) (transmitError (d .counters)) (d .counters)
+  after-counters (TransmitError kind counts) = refl
   after-counters Begun = refl
   after-counters Completed = refl
   after-counters ArbitrationLost = refl
@@ -79,12 +74,12 @@ module _ (d : Device) where
   after-counters Unknown = refl
 
   frame-counters : (h : Header) (payload : List ℕ) (what : Arrival)
-      → frameAfter d h payload what .counters ≡ pick (eqb (d .acting) normal && reachesBuffer what) (goodFrame (d .counters)) (d .counters)
+      → frameAfter d h payload what .counters ≡ pick (eqb (d .acting) normal && reachesTemporary what) (goodFrame (d .counters)) (d .counters)
   unfolding frameAfter heard countedFrame
   frame-counters h payload what =
-      pick-part (λ (e : Device). e .counters) (reachesBuffer what) _ _
-      ∙ ap (λ c. pick (reachesBuffer what) (pick (eqb (d .acting) normal) (goodFrame (d .counters)) (d .counters)) c) (ap (λ x. x .1) (activity-unmoved d))
-      ∙ frame-pick (reachesBuffer what) (eqb (d .acting) normal) (goodFrame (d .counters)) (d .counters)
+      pick-part (λ (e : Device). e .counters) (reachesTemporary what) _ _
+      ∙ ap (λ c. pick (reachesTemporary what) (pick (eqb (d .acting) normal) (goodFrame (d .counters)) (d .counters)) c) (ap (λ x. x .1) (activity-unmoved d))
+      ∙ frame-pick (reachesTemporary what) (eqb (d .acting) normal) (goodFrame (d .counters)) (d .counters)
 
   on-wire : (e : Event) (payload : List ℕ) → Counts (wire e payload) (step d (wire e payload))
   unfolding echoed sent countedCompletion arrived raised

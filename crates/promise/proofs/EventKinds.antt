@@ -16,13 +16,13 @@ use Rattle.flags.specs.Flags.{raised}
 use Rattle.modes.specs.Modes.{changed, canSleep, busQuiet, busActivity}
 use Rattle.receive.specs.declared.Arrival.{Arrival}
 use Rattle.receive.specs.declared.Arrival.the-variants.{Queued, A5}
-use Rattle.receive.specs.Receive.{hit, room, passed, answered as filtered, reason as filtersAndRoom}
+use Rattle.receive.specs.Receive.{hit, room, passed, answered as filtered, filtersAndRoom}
 use Rattle.events.specs.declared.Event.{Event}
 use Rattle.events.specs.declared.Event.the-variants.{GoodFrame, ReceiveError, DominantBit, TransmitError, Begun, Completed, ArbitrationLost, ElevenRecessive}
 use Rattle.events.specs.declared.Event.the-variants.{BusQuiet, BusActivity, Ticks, TxenPin, MasterReset, Unknown}
 use Rattle.judged.specs.declared.Answer.the-variants.{Refused, Done, Arrived}
 use Rattle.judged.specs.Judged.{impossible, said, echo, reason}
-use Rattle.changed.specs.Changed.{reachesBuffer, frameAfter, echoed, arrival, after}
+use Rattle.changed.specs.Changed.{reachesTemporary, frameAfter, echoed, arrival, after}
 use Rattle.bus.specs.Event.{numberOf}
 use Rattle.promise.specs.Sequence.{wire, Given, answered, Step, shipped as step}
 use Rattle.promise.specs.Sums.{done}
@@ -31,19 +31,19 @@ use Rattle.promise.proofs.Steps.{by-event, doneEvent}
 
 -- ---- a frame that the mode takes reaches the temporary buffer
 
-room-reaches : (d : Device) → reachesBuffer (room d) ≡ true
-unfolding room reachesBuffer
-room-reaches d = pick-keeps (λ what. reachesBuffer what ≡ true) (full (d .rx)) A5 Queued refl refl
+room-reaches : (d : Device) → reachesTemporary (room d) ≡ true
+unfolding room reachesTemporary
+room-reaches d = pick-keeps (λ what. reachesTemporary what ≡ true) (full (d .rx)) A5 Queued refl refl
 
-passed-reaches : (d : Device) (found : Hit) → reachesBuffer (passed d found) ≡ true
-unfolding passed reachesBuffer
+passed-reaches : (d : Device) (found : Hit) → reachesTemporary (passed d found) ≡ true
+unfolding passed reachesTemporary
 passed-reaches d (Filter k) = room-reaches d
 passed-reaches d Nothing = refl
 
-reaches : (d : Device) (h : Header) (bytes : List ℕ) → reachesBuffer (filtersAndRoom d h bytes) ≡ true
+reaches : (d : Device) (h : Header) (bytes : List ℕ) → reachesTemporary (filtersAndRoom d h bytes) ≡ true
 unfolding filtersAndRoom filtered
 reaches d h bytes =
-    pick-keeps (λ what. reachesBuffer what ≡ true) (filton d) (passed d (hit d h bytes)) (room d)
+    pick-keeps (λ what. reachesTemporary what ≡ true) (filton d) (passed d (hit d h bytes)) (room d)
     (passed-reaches d (hit d h bytes))
     (room-reaches d)
 
@@ -66,7 +66,7 @@ module _ (P : Event → Bool → Given → Device → Type 0) (d : Device) (payl
     (refused : (e : Event) (n : ℕ) → P e false (answered (Refused n)) d)
     (framed : (h : Header) (acknowledged : Bool) (n : ℕ) (what : Arrival) → impossible d (GoodFrame h acknowledged n) ≡ false
     → P (GoodFrame h acknowledged n) true (answered (Arrived what)) (frameAfter d h payload what))
-    (echoes : (what : Arrival) → impossible d Completed ≡ false → eqb (d .acting) loopback ≡ true → reachesBuffer what ≡ true
+    (echoes : (what : Arrival) → impossible d Completed ≡ false → eqb (d .acting) loopback ≡ true → reachesTemporary what ≡ true
     → P Completed true (answered (Arrived what)) (echoed d what))
     (plain : (e : Event) → impossible d e ≡ false → P e true (answered Done) (after d e)) where
   abbrev Holds : Event → Step → Type 0

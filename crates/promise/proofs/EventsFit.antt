@@ -12,7 +12,7 @@ use Rattle.counters.specs.Rules.{receiveError, dominantBit, goodFrame, transmit
 use Rattle.fifo.specs.Queue.{isEmpty, inRange}
 use Rattle.frame.specs.declared.Header.{Header}
 use Rattle.chip.specs.declared.Device.{Device}
-use Rattle.chip.specs.State.{modeOf, normal, sleep, monitor, bor, wakeup, idle, first-in-fifo, loopback}
+use Rattle.chip.specs.State.{modeOf, normal, sleep, monitor, bor, wakeup, idle, firstInFifo, loopback}
 use Rattle.flags.specs.Flags.{raised, busError}
 use Rattle.transmit.specs.Transmit.{stopped, begun, canBegin, sent, fifoAfter, countedCompletion}
 use Rattle.modes.specs.Modes.{changed, busQuiet, busActivity, canSleep}
@@ -24,8 +24,8 @@ use Rattle.events.specs.declared.Event.the-variants.{GoodFrame, ReceiveError, D
 use Rattle.events.specs.declared.Event.the-variants.{BusQuiet, BusActivity, Ticks, TxenPin, MasterReset, Unknown}
 use Rattle.judged.specs.declared.Answer.{Answer}
 use Rattle.judged.specs.Judged.{impossible, said, echo}
-use Rattle.changed.specs.Changed.{errBit, countedFrame, heard, reachesBuffer, frameAfter, countedReceiveError, errorReceived, dominantMet, countedTransmitError}
-use Rattle.changed.specs.Changed.{errorSent, echoed, recessiveMet, ticked, pinSet, arrival, after}
+use Rattle.changed.specs.Changed.{errBit, countedFrame, heard, reachesTemporary, frameAfter, countedReceiveError, receiveErrorMet, dominantMet, countedTransmitError}
+use Rattle.changed.specs.Changed.{transmitErrorMet, echoed, recessiveMet, ticked, pinSet, arrival, after}
 use Rattle.bus.specs.Event.{outcome}
 use Rattle.promise.proofs.Choices.{pick-under}
 use Rattle.promise.proofs.Ranges.{InRange, put-fits, take-fits}
@@ -69,7 +69,7 @@ module _ (d : Device) (h : InRange d) where
   unfolding frameAfter heard
   frame-in header payload what =
       let a = arrived-in header payload what in
-      pick-under InRange (reachesBuffer what) _ _
+      pick-under InRange (reachesTemporary what) _ _
       (λ reaches. (a .0, a .1, a .2, frame-groups, a .4, a .5, a .6, a .7, a .8))
       (λ stays. activity-in)
 
@@ -77,8 +77,8 @@ module _ (d : Device) (h : InRange d) where
   unfolding busError raised
   errors-in kind = errs-more (d .regs .errs) kind (h .4)
 
-  received-in : (kind : ErrorKind) → InRange (errorReceived d kind)
-  unfolding errorReceived busError raised countedReceiveError receiveError
+  received-in : (kind : ErrorKind) → InRange (receiveErrorMet d kind)
+  unfolding receiveErrorMet busError raised countedReceiveError receiveError
   received-in kind = (
     h .0,
     h .1,
@@ -106,8 +106,8 @@ module _ (d : Device) (h : InRange d) where
       (λ on. pick-under Grouped (ltb 255 (d .counters .tec + 8)) _ _ (λ over. refl) (λ under. h .3))))
       (λ exempt. h .3)
 
-  sent-error-in : (kind : ErrorKind) (counted : Bool) → InRange (errorSent d kind counted)
-  unfolding errorSent stopped busError raised
+  sent-error-in : (kind : ErrorKind) (counted : Bool) → InRange (transmitErrorMet d kind counted)
+  unfolding transmitErrorMet stopped busError raised
   sent-error-in kind counted =
       (h .0, h .1, h .2, transmit-groups counted, errors-in kind, h .5, h .6, refl, h .8)
 
@@ -122,7 +122,7 @@ module _ (d : Device) (h : InRange d) where
   unfolding sent raised fifoAfter
   sent-in = (
     h .0,
-    pick-under (λ q. inRange q ≡ true) (eqb (d .sending) first-in-fifo) _ _ (λ own. take-fits (d .tx) (h .1)) (λ gone. h .1),
+    pick-under (λ q. inRange q ≡ true) (eqb (d .sending) firstInFifo) _ _ (λ own. take-fits (d .tx) (h .1)) (λ gone. h .1),
     put-fits (d .history) _ (h .2),
     completion-groups,
     h .4,

@@ -14,14 +14,14 @@ use Rattle.fifo.specs.declared.Message.{Message}
 use Rattle.fifo.specs.Queue.{absent}
 use Rattle.frame.specs.declared.Header.{Header}
 use Rattle.frame.specs.Length.{possible, dataFits}
-use Rattle.frame.specs.Tables.{idFrom, readId}
+use Rattle.frame.specs.Tables.{idFrom, idAsRead}
 use Rattle.frame.specs.Received.{received, idIn, headerIn, dataIn}
 use Rattle.frame.proofs.ReadBack.{header-back, data-back, time-back, filter-back}
 use Rattle.filter.specs.Lowest.{filhit}
 use Rattle.sent.specs.declared.Message.{Message as SentMessage}
-use Rattle.sent.specs.Sent.{readMessage, stored}
+use Rattle.sent.specs.Sent.{messageOf, stored}
 use Rattle.chip.specs.declared.Device.{Device}
-use Rattle.chip.specs.State.{fresh, loopback}
+use Rattle.chip.specs.State.{fresh, loopback, resetBit}
 use Rattle.receive.specs.Receive.{hit, message}
 use Rattle.events.specs.declared.Event.{Event}
 use Rattle.events.specs.declared.Event.the-variants.{GoodFrame, ReceiveError, DominantBit, TransmitError, Begun, Completed, ArbitrationLost, ElevenRecessive}
@@ -35,10 +35,10 @@ use Rattle.refused.specs.Refused.{lengthFits}
 use Rattle.promise.specs.Sequence.{Input, spi, wire, Step, shipped as step, run}
 use Rattle.promise.specs.Meaning.{clearing, other, meanings, commandMeans, means}
 use Rattle.promise.specs.Ledger.{Shows, Truly, hidden}
-use Rattle.promise.specs.Outbox.{Running, none, first, orphan, Outbox, emptied, halted, orphaned, brought, remaining, commanded, happened, outboxAfter, outbox}
+use Rattle.promise.specs.Outbox.{Running, none, first, alone, Outbox, emptied, halted, aloneAfter, brought, remaining, commanded, happened, outboxAfter, outbox}
 use Rattle.promise.specs.Outbox.{Runs}
 use Rattle.promise.specs.Promises.{FieldsStandAsTheyArrived}
-use Rattle.promise.specs.Sums.{done, asks, resetAsked}
+use Rattle.promise.specs.Sums.{done, asks, resetAsked, resetMet}
 use Rattle.promise.proofs.Each.{Each, each-more}
 use Rattle.promise.proofs.Among.{_and_, among-keeps}
 use Rattle.promise.proofs.Choices.{pick-keeps, pick-under}
@@ -80,13 +80,13 @@ abbrev Headed : Message → Type 0
 Headed m = possible (headerIn (m .bytes)) ≡ true
 
 stored-headed : (m : SentMessage) → possible (headerIn (stored m)) ≡ true
-unfolding stored received readId
+unfolding stored received idAsRead
 stored-headed m = header-possible (stored m) (omega arith) (omega arith) (omega arith)
 
 abbrev RunningHeaded : Running → Type 0
 RunningHeaded none = Unit {0}
 RunningHeaded (first m) = Headed m
-RunningHeaded (orphan m) = Headed m
+RunningHeaded (alone m) = Headed m
 
 -- every message of an outbox
 abbrev BoxHeaded : Outbox → Type 0
@@ -102,27 +102,27 @@ rest-headed : (ms : List Message) → Each Headed ms → Each Headed (drop 1 ms)
 rest-headed [] all = tt
 rest-headed (m ∷ ms) all = all .1
 
-orphaned-headed : (r : Running) → RunningHeaded r → RunningHeaded (orphaned r)
-orphaned-headed none h = tt
-orphaned-headed (first m) h = h
-orphaned-headed (orphan m) h = h
+alone-headed : (r : Running) → RunningHeaded r → RunningHeaded (aloneAfter r)
+alone-headed none h = tt
+alone-headed (first m) h = h
+alone-headed (alone m) h = h
 
 remaining-headed : (ms : List Message) (r : Running) → Each Headed ms → Each Headed (remaining ms r)
 remaining-headed ms none all = all
 remaining-headed ms (first m) all = rest-headed ms all
-remaining-headed ms (orphan m) all = all
+remaining-headed ms (alone m) all = all
 
 module _ (o : Outbox) (h : BoxHeaded o) where
   -- by whether a transfer resets, clears, aborts, writes, or leaves the mode
   by-deed : (resets clears aborts writes same : Bool) (m : Message) → Headed m
       → BoxHeaded
       (pick resets emptied
-      (pick clears (record { queue = []; running = orphaned (o .running) })
+      (pick clears (record { queue = []; running = aloneAfter (o .running) })
       (pick aborts (halted o)
       (pick writes (record { queue = o .queue ++ (m ∷ []); running = o .running })
       (pick same o (halted o))))))
   by-deed true clears aborts writes same m headed = (tt, tt)
-  by-deed false true aborts writes same m headed = (tt, orphaned-headed (o .running) (h .1))
+  by-deed false true aborts writes same m headed = (tt, alone-headed (o .running) (h .1))
   by-deed false false true writes same m headed = (h .0, tt)
   by-deed false false false true same m headed = (each-more Headed (o .queue) m (h .0) headed, h .1)
   by-deed false false false false true m headed = h
@@ -131,14 +131,14 @@ module _ (o : Outbox) (h : BoxHeaded o) where
   commanded-headed : (bytes : List ℕ) (before after : ℕ) → BoxHeaded (commanded o bytes before after)
   commanded-headed bytes before after =
       by-deed (resetAsked bytes) (asks clearTransmit bytes) (asks abortTransmission bytes) (asks writeMessage bytes) (eqb before after)
-      (brought bytes) (stored-headed (readMessage (drop 1 bytes) .message))
+      (brought bytes) (stored-headed (messageOf (drop 1 bytes) .message))
 
   happened-headed : (e : Event) → BoxHeaded (happened o e)
   happened-headed Begun = (h .0, first-headed (o .queue) (h .0))
   happened-headed Completed = (remaining-headed (o .queue) (o .running) (h .0), tt)
   happened-headed (TransmitError kind counted) = (h .0, tt)
   happened-headed ArbitrationLost = (h .0, tt)
-  happened-headed MasterReset = (tt, tt)
+  happened-headed MasterReset = h
   happened-headed (GoodFrame header acknowledged n) = h
   happened-headed (ReceiveError kind) = h
   happened-headed DominantBit = h
@@ -152,7 +152,9 @@ module _ (o : Outbox) (h : BoxHeaded o) where
   after-headed : (d : Device) (i : Input) (s : Step) → BoxHeaded (outboxAfter d o i s)
   after-headed d (spi bytes buffer) s =
       pick-keeps BoxHeaded (done (s .given)) (commanded o bytes (d .acting) (s .device .acting)) o (commanded-headed bytes (d .acting) (s .device .acting)) h
-  after-headed d (wire e payload) s = pick-keeps BoxHeaded (done (s .given)) (happened o e) o (happened-headed e) h
+  after-headed d (wire e payload) s =
+      pick-keeps BoxHeaded (done (s .given)) (pick (resetMet e) emptied (happened o e)) o
+      (pick-keeps BoxHeaded (resetMet e) emptied (happened o e) (tt, tt) (happened-headed e)) h
 
 outbox-headed : (is : List Input) → BoxHeaded (outbox step is)
 outbox-headed is = keeps _ (λ d o. BoxHeaded o) (λ d o i h. after-headed o h d i (step d i)) fresh emptied is (tt, tt)
@@ -162,7 +164,7 @@ buffer-headed : (d : Device) (r : Running) → Runs d r → RunningHeaded r → 
 unfolding runs
 buffer-headed d none is headed some = absurd (false≢true (rw is at some))
 buffer-headed d (first m) is headed some = rw (is .1) headed
-buffer-headed d (orphan m) is headed some = rw (is .1) headed
+buffer-headed d (alone m) is headed some = rw (is .1) headed
 
 -- ---- the promise
 
@@ -172,7 +174,7 @@ command-truly d Nothing bytes room = tt
 command-truly d (At r) bytes room =
     pick-keeps (Truly d) (lengthFits r bytes && not (ltb room (r .out))) (among (r .verb) (meanings bytes) other) other
     (among-keeps (λ v m. Truly d m) (r .verb) (meanings bytes) other
-    (tt and tt and tt and tt and tt and tt and pick-keeps (Truly d) (isSet 3 (byte bytes 2)) clearing other tt tt and tt)
+    (tt and tt and tt and tt and tt and tt and pick-keeps (Truly d) (resetBit (byte bytes 2)) clearing other tt tt and tt)
     (λ out. tt))
     tt
 

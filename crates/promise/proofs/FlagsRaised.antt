@@ -22,12 +22,12 @@ use Rattle.events.specs.declared.Event.{Event}
 use Rattle.events.specs.declared.Event.the-variants.{GoodFrame, ReceiveError, DominantBit, TransmitError, Begun, Completed, ArbitrationLost, ElevenRecessive}
 use Rattle.events.specs.declared.Event.the-variants.{BusQuiet, BusActivity, Ticks, TxenPin, MasterReset, Unknown}
 use Rattle.judged.specs.declared.Answer.the-variants.{Done, Arrived}
-use Rattle.judged.specs.Judged.{impossible, impossibleFrame, runs}
-use Rattle.changed.specs.Changed.{after, reachesBuffer, frameAfter, heard, echoed, errorReceived, dominantMet, errorSent, recessiveMet, ticked, pinSet}
+use Rattle.judged.specs.Judged.{impossible, runs}
+use Rattle.changed.specs.Changed.{after, reachesTemporary, frameAfter, heard, echoed, receiveErrorMet, dominantMet, transmitErrorMet, recessiveMet, ticked, pinSet}
 use Rattle.promise.specs.Meaning.{means}
 use Rattle.promise.specs.Sequence.{wire, Given, answered, shipped as step}
-use Rattle.promise.specs.Sums.{done}
-use Rattle.promise.specs.Interrupts.{filterFlags, frameHit, givenFlags, ownFlags, modeFlags, wakeFlags, isClearing, together}
+use Rattle.promise.specs.Sums.{done, resetMet}
+use Rattle.promise.specs.Interrupts.{filterFlags, frameHit, givenFlags, ownFlags, modeFlags, wakeFlags, together}
 use Rattle.promise.proofs.Choices.{pick-keeps, pick-under}
 use Rattle.promise.proofs.EventKinds.{by-happening}
 use Rattle.promise.proofs.Rising.{both-stay, sleeps, wakes, frame-rises}
@@ -68,23 +68,16 @@ module _ (d : Device) where
     -- what an event does to INTF, if it is done or not
     abbrev Wired : Event → Bool → Given → Device → Type 0
     Wired e ok given after =
-        after .regs .intf ≡ pick (ok && isClearing (means d (wire e payload))) 0 (together (d .regs .intf) (pick ok (occurred e given after) []))
-
-    -- neither a frame nor a completion puts INTF down
-    frame-clears : (h : Header) (acknowledged : Bool) (n : ℕ) → isClearing (means d (wire (GoodFrame h acknowledged n) payload)) ≡ false
-    frame-clears h acknowledged n = pick-keeps (λ m. isClearing m ≡ false) (impossibleFrame h n) _ _ refl refl
-
-    sent-clears : isClearing (means d (wire Completed payload)) ≡ false
-    sent-clears = pick-keeps (λ m. isClearing m ≡ false) (runs d && eqb (d .acting) loopback) _ _ refl refl
+        after .regs .intf ≡ pick (ok && resetMet e) 0 (together (d .regs .intf) (pick ok (occurred e given after) []))
 
     after-rises : (e : Event) → Wired e true (answered Done) (after d e)
-    unfolding after errorReceived busError raised dominantMet errorSent stopped begun sent recessiveMet ticked pinSet reset fresh
-    after-rises (GoodFrame h acknowledged n) = rw (frame-clears h acknowledged n) (stays (d .regs .intf))
+    unfolding after receiveErrorMet busError raised dominantMet transmitErrorMet stopped begun sent recessiveMet ticked pinSet reset fresh
+    after-rises (GoodFrame h acknowledged n) = stays (d .regs .intf)
     after-rises (ReceiveError kind) = stays (bitOr (d .regs .intf) buserr)
     after-rises DominantBit = pick-keeps (Rises []) (eqb (d .acting) monitor) d _ (stays (d .regs .intf)) (stays (d .regs .intf))
     after-rises (TransmitError kind counts) = stays (bitOr (d .regs .intf) buserr)
     after-rises Begun = stays (d .regs .intf)
-    after-rises Completed = rw sent-clears (stays (bitOr (d .regs .intf) txcplt))
+    after-rises Completed = stays (bitOr (d .regs .intf) txcplt)
     after-rises ArbitrationLost = stays (d .regs .intf)
     after-rises ElevenRecessive = stays (d .regs .intf)
     after-rises BusQuiet = quiet-rises
@@ -105,9 +98,9 @@ module _ (d : Device) where
     framed-rises : (h : Header) (acknowledged : Bool) (n : ℕ) (what : Arrival) → impossible d (GoodFrame h acknowledged n) ≡ false
         → Wired (GoodFrame h acknowledged n) true (answered (Arrived what)) (frameAfter d h payload what)
     unfolding frameAfter impossible
-    framed-rises h acknowledged n what possible = rw possible (frame-cases h what (reachesBuffer what))
+    framed-rises h acknowledged n what possible = rw possible (frame-cases h what (reachesTemporary what))
 
-    echo-rises : (what : Arrival) → impossible d Completed ≡ false → eqb (d .acting) loopback ≡ true → reachesBuffer what ≡ true
+    echo-rises : (what : Arrival) → impossible d Completed ≡ false → eqb (d .acting) loopback ≡ true → reachesTemporary what ≡ true
         → Wired Completed true (answered (Arrived what)) (echoed d what)
     unfolding echoed sent arrived raised impossible
     echo-rises what possible back taken =

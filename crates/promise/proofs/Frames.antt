@@ -18,13 +18,13 @@ use Rattle.transmit.specs.Transmit.{begun, stopped, sent}
 use Rattle.modes.specs.Modes.{changed, canSleep, busQuiet, busActivity}
 use Rattle.receive.specs.declared.Arrival.{Arrival}
 use Rattle.receive.specs.declared.Arrival.the-variants.{Queued, A1, A2, A3, A4, A5}
-use Rattle.receive.specs.Receive.{hit, room, passed, answered as judgedBy, reason as filtersAndRoom, message, isQueued, queueAfter, arrived}
+use Rattle.receive.specs.Receive.{hit, room, passed, answered as judgedBy, filtersAndRoom, message, isQueued, queueAfter, arrived}
 use Rattle.events.specs.declared.Event.{Event}
 use Rattle.events.specs.declared.Event.the-variants.{GoodFrame, ReceiveError, DominantBit, TransmitError, Begun, Completed, ArbitrationLost, ElevenRecessive}
 use Rattle.events.specs.declared.Event.the-variants.{BusQuiet, BusActivity, Ticks, TxenPin, MasterReset, Unknown}
 use Rattle.judged.specs.declared.Answer.the-variants.{Refused, Done, Arrived}
 use Rattle.judged.specs.Judged.{impossible, runs, takesNoFrames, unacknowledged, reason, echo, said}
-use Rattle.changed.specs.Changed.{heard, reachesBuffer, frameAfter, errorReceived, dominantMet, errorSent, echoed, recessiveMet, ticked, pinSet, arrival, after}
+use Rattle.changed.specs.Changed.{heard, reachesTemporary, frameAfter, receiveErrorMet, dominantMet, transmitErrorMet, echoed, recessiveMet, ticked, pinSet, arrival, after}
 use Rattle.bus.specs.Event.{event, answer, outcome, numberOf, valuesOf}
 use Rattle.promise.specs.Sequence.{wire, answered, shipped as step}
 use Rattle.promise.specs.Meaning.{frame, other, fromTheBus, means}
@@ -67,8 +67,8 @@ reason-room false false true what queued = absurd (false≢true queued)
 reason-room false false false what queued = queued
 
 -- a frame that doesn't reach the buffer isn't queued
-unreached : (what : Arrival) → reachesBuffer what ≡ false → isQueued what ≡ false
-unfolding reachesBuffer isQueued
+unreached : (what : Arrival) → reachesTemporary what ≡ false → isQueued what ≡ false
+unfolding reachesTemporary isQueued
 unreached Queued e = e
 unreached A1 e = refl
 unreached A2 e = refl
@@ -111,7 +111,7 @@ module _ (d : Device) (l : Ledger) (h : Kept d l) where
       → frameAfter d header payload what .rx ≡ queueAfter (d .rx) (message d header payload) (isQueued what)
   unfolding frameAfter heard arrived raised queueAfter
   frame-queue header payload what =
-      pick-under (λ (e : Device). e .rx ≡ queueAfter (d .rx) (message d header payload) (isQueued what)) (reachesBuffer what) _ _
+      pick-under (λ (e : Device). e .rx ≡ queueAfter (d .rx) (message d header payload) (isQueued what)) (reachesTemporary what) _ _
       (λ reaches. refl)
       (λ stays. rw (unreached what stays) activity-queue)
 
@@ -150,7 +150,7 @@ module _ (d : Device) (l : Ledger) (h : Kept d l) where
 
   done-agrees : (e : Event) (payload : List ℕ) → impossible d e ≡ false → InRange (outcome d e payload (said d e payload) .device)
       → Agrees d l [] (means (hidden d) (wire e payload)) (doneEvent d e payload (said d e payload))
-  unfolding said arrival after impossible errorReceived dominantMet errorSent stopped begun busError raised recessiveMet ticked pinSet reset fresh numberOf valuesOf
+  unfolding said arrival after impossible receiveErrorMet dominantMet transmitErrorMet stopped begun busError raised recessiveMet ticked pinSet reset fresh numberOf valuesOf
   done-agrees (GoodFrame header acknowledged n) payload possible range =
       rw possible
       (frame-agrees d l h [] header payload (fromTheBus (hidden d) acknowledged) (reason d header acknowledged payload) _

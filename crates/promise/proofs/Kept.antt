@@ -11,7 +11,7 @@ use lib.ListN.{length, getD, take, replicate, length-append, length-take, length
 use lib.Seq.{getD-append-seam}
 use Rattle.base.specs.Pick.{pick}
 use Rattle.base.specs.Put.{putOf}
-use Rattle.base.proofs.Lists.{tabulate}
+use Rattle.base.specs.Tabulate.{tabulate}
 use Rattle.fifo.specs.declared.Fifo.{Fifo}
 use Rattle.fifo.specs.declared.Message.{Message}
 use Rattle.fifo.specs.Queue.{empty, absent, waiting, put, next, take as takeOff}
@@ -20,12 +20,12 @@ use Rattle.frame.specs.declared.Header.{Header}
 use Rattle.frame.specs.Length.{dataBytes, dataOf}
 use Rattle.frame.proofs.Data.{data-bytes-le}
 use Rattle.frame.specs.Received.{received}
-use Rattle.frame.specs.Tables.{readId}
+use Rattle.frame.specs.Tables.{idAsRead}
 use Rattle.chip.specs.declared.Device.{Device}
 use Rattle.receive.specs.declared.Arrival.{Arrival}
 use Rattle.receive.specs.Receive.{hit, message, isQueued, queueAfter}
 use Rattle.judged.specs.declared.Answer.the-variants.{Arrived}
-use Rattle.promise.specs.Numbers.{said}
+use Rattle.promise.specs.Numbers.{valuesGiven}
 use Rattle.promise.specs.Meaning.{Reason, Meaning, frame, reading, clearing, other}
 use Rattle.promise.specs.Ledger.{Ledger, left, oldest, due, accepts, nothing, entered, owed, told, hidden, fields, Answers}
 use Rattle.promise.specs.Sequence.{Given, replied, answered, Step, number}
@@ -46,7 +46,7 @@ data-length h payload =
     (omega arith)
 
 message-sized : (d : Device) (h : Header) (payload : List ℕ) → Sized (message d h payload)
-unfolding received readId
+unfolding received idAsRead
 message-sized d h payload =
     let few = data-length h payload in
     (omega arith, omega arith)
@@ -102,7 +102,7 @@ module _ (d : Device) (l : Ledger) (h : Kept d l) where
     next-sized = rw oldest-next at (sized-at (l .accepted) (length (l .taken)) (omega (arith, left-waits)) (h .sized))
 
   -- nothing that concerns the queue
-  pub other-agrees : (buffer : List ℕ) (e : Device) (given : Given) → InRange e → e .rx ≡ d .rx → said given ≡ []
+  pub other-agrees : (buffer : List ℕ) (e : Device) (given : Given) → InRange e → e .rx ≡ d .rx → valuesGiven given ≡ []
       → Agrees d l buffer other (record { device = e; given = given })
   other-agrees buffer e given range rx silent = record {
     answers = silent;
@@ -111,7 +111,7 @@ module _ (d : Device) (l : Ledger) (h : Kept d l) where
   }
 
   -- a clearing
-  pub clear-agrees : (buffer : List ℕ) (e : Device) (given : Given) → InRange e → e .rx ≡ empty → number given ≡ 0 → said given ≡ []
+  pub clear-agrees : (buffer : List ℕ) (e : Device) (given : Given) → InRange e → e .rx ≡ empty → number given ≡ 0 → valuesGiven given ≡ []
       → Agrees d l buffer clearing (record { device = e; given = given })
   unfolding empty
   clear-agrees buffer e given range rx done silent = record {

@@ -18,7 +18,7 @@ use Rattle.commands.specs.declared.Row.{Row}
 use Rattle.commands.specs.Table.{rows, lookup}
 use Rattle.refused.specs.Refused.{lengthFits, setsUp, outsideSetUp, findsFull, readsMessage, findsNone}
 use Rattle.promise.specs.Sequence.{spi}
-use Rattle.promise.specs.Numbers.{row, lowest}
+use Rattle.promise.specs.Numbers.{row, firstSaying}
 use Rattle.promise.proofs.Choices.{pick-under}
 
 module _ (d : Device) where
@@ -34,7 +34,7 @@ module _ (d : Device) where
   some-bytes r bytes fits = ne-eqb (length bytes) 0 (λ none. omega (arith, leb-true (r .least + 1) (length bytes) (and-left _ _ fits)))
 
   pub fit-number : (bytes buffer : List ℕ) (r : Row) → proper d ≡ true → lookup rows (byte bytes 1) ≡ At r
-      → lengthFits r bytes ≡ true → ltb (length buffer) (r .out) ≡ false → lowest (row d (spi bytes buffer)) ≡ last (r .verb)
+      → lengthFits r bytes ≡ true → ltb (length buffer) (r .out) ≡ false → firstSaying (row d (spi bytes buffer)) ≡ last (r .verb)
   unfolding last
   fit-number bytes buffer r is-proper at fits room =
       rw (is-proper, at, some-bytes r bytes fits, fits, room)

@@ -7,7 +7,6 @@ use native.Mathlib.Omega.{arith}
 use borrow.Author.Tests.{leb-true, leb-false, eqb-false, eq-eqb, ne-eqb}
 use lib.Dec.{eqb, leb}
 use lib.ListN.{length, getD, drop}
-use Rattle.base.specs.Bit.{isSet}
 use Rattle.base.specs.Pick.{pick}
 use Rattle.base.proofs.Booleans.{and-left, and-right}
 use Rattle.fifo.specs.declared.Fifo.{Fifo}
@@ -15,13 +14,13 @@ use Rattle.fifo.specs.declared.Message.{Message}
 use Rattle.fifo.specs.Queue.{empty, absent, isEmpty, waiting, take, next}
 use Rattle.fifo.proofs.Waiting.{put-waits, take-waits}
 use Rattle.chip.specs.declared.Device.{Device}
-use Rattle.chip.specs.State.{fresh, modeOf, sleep, idle, first-in-fifo}
+use Rattle.chip.specs.State.{fresh, modeOf, sleep, idle, firstInFifo, resetBit}
 use Rattle.flags.specs.Flags.{raised}
 use Rattle.flags.specs.Reset.{reset}
 use Rattle.transmit.specs.Transmit.{canBegin, begun, stopped, cleared, leftAlone, fifoAfter, sent}
 use Rattle.modes.specs.Modes.{changed, writeCtrl0}
 use Rattle.done.specs.Done.{messageWritten}
-use Rattle.promise.specs.Outbox.{Running, none, first, orphan, Outbox, emptied, halted, orphaned, brought, remaining, Runs}
+use Rattle.promise.specs.Outbox.{Running, none, first, alone, Outbox, emptied, halted, aloneAfter, brought, remaining, Runs}
 use Rattle.promise.proofs.Choices.{pick-keeps, pick-under}
 use Rattle.promise.proofs.Fits.{some-wait}
 use Rattle.promise.proofs.Kept.{taken-items, put-items}
@@ -55,14 +54,14 @@ module _ (d : Device) where
   runs-on : (e : Device) (r : Running) → e .sending ≡ d .sending → e .buffer ≡ d .buffer → Runs d r → Runs e r
   runs-on e none sending buffer runs = sending ∙ runs
   runs-on e (first m) sending buffer runs = (sending ∙ runs .0, buffer ∙ runs .1)
-  runs-on e (orphan m) sending buffer runs = (sending ∙ runs .0, buffer ∙ runs .1)
+  runs-on e (alone m) sending buffer runs = (sending ∙ runs .0, buffer ∙ runs .1)
 
   -- 0x54 leaves it alone
-  cleared-runs : (r : Running) → Runs d r → Runs (cleared d) (orphaned r)
+  cleared-runs : (r : Running) → Runs d r → Runs (cleared d) (aloneAfter r)
   unfolding cleared leftAlone
   cleared-runs none runs = rw runs
   cleared-runs (first m) runs = (rw (runs .0), runs .1)
-  cleared-runs (orphan m) runs = (rw (runs .0), runs .1)
+  cleared-runs (alone m) runs = (rw (runs .0), runs .1)
 
 -- ---- each change
 
@@ -87,10 +86,10 @@ module _ (d : Device) (o : Outbox) (h : Held d o) where
   onward-held e same acting = rw (eq-eqb (d .acting) (e .acting) acting) (same-held e same)
 
   -- by whether RESET is written, MODE names sleep, or MODE names the acting mode
-  pub ctrl0-held : (v : ℕ) → Held (writeCtrl0 d v) (pick (isSet 3 v) emptied (onward o (d .acting) (writeCtrl0 d v .acting)))
+  pub ctrl0-held : (v : ℕ) → Held (writeCtrl0 d v) (pick (resetBit v) emptied (onward o (d .acting) (writeCtrl0 d v .acting)))
   unfolding writeCtrl0 changed raised stopped reset fresh
   ctrl0-held v =
-      pick-under (λ (e : Device). Held e (pick (isSet 3 v) emptied (onward o (d .acting) (e .acting)))) (isSet 3 v) _ _
+      pick-under (λ (e : Device). Held e (pick (resetBit v) emptied (onward o (d .acting) (e .acting)))) (resetBit v) _ _
       (λ resets. rw resets (empty-held _ refl refl))
       (λ stays. rw stays (pick-under (λ (e : Device). Held e (onward o (d .acting) (e .acting))) (eqb (modeOf v) sleep) _ _
       (λ sleeps. onward-held _ refl refl)
@@ -98,7 +97,7 @@ module _ (d : Device) (o : Outbox) (h : Held d o) where
       (λ same. onward-held _ refl refl)
       (λ new. rw (ne-eqb (d .acting) (modeOf v) (λ same. eqb-false (modeOf v) (d .acting) new (sym same))) (stopped-held _ refl refl)))))
 
-  pub cleared-held : Held (cleared d) (record { queue = []; running = orphaned (o .running) })
+  pub cleared-held : Held (cleared d) (record { queue = []; running = aloneAfter (o .running) })
   unfolding cleared empty
   cleared-held = record { places = refl; queued = refl; runs = cleared-runs d (o .running) (h .runs) }
 
@@ -127,12 +126,12 @@ module _ (d : Device) (o : Outbox) (h : Held d o) where
   unfolding fifoAfter
   sent-queue none runs = rw runs (h .queued)
   sent-queue (first m) runs = rw (runs .0) (taken-waits (d .tx) ∙ ap (drop 1) (h .queued))
-  sent-queue (orphan m) runs = rw (runs .0) (h .queued)
+  sent-queue (alone m) runs = rw (runs .0) (h .queued)
 
   pub sent-held : Held (sent d) (record { queue = remaining (o .queue) (o .running); running = none })
   unfolding sent raised fifoAfter
   sent-held = record {
-    places = pick-keeps (λ (q : Fifo). length (q .items) ≡ 8) (eqb (d .sending) first-in-fifo) (take (d .tx)) (d .tx)
+    places = pick-keeps (λ (q : Fifo). length (q .items) ≡ 8) (eqb (d .sending) firstInFifo) (take (d .tx)) (d .tx)
         (rw (taken-items (d .tx)) (h .places)) (h .places);
     queued = sent-queue (o .running) (h .runs);
     runs = refl;

@@ -7,11 +7,11 @@ use native.Mathlib.Omega.{arith}
 use borrow.Author.Tests.{not-false}
 use lib.Dec.{eqb}
 use lib.ListN.{length}
-use Rattle.base.specs.Bit.{byte, isSet}
+use Rattle.base.specs.Bit.{byte}
 use Rattle.base.specs.Pick.{pick}
 use Rattle.frame.specs.declared.Header.{Header}
 use Rattle.chip.specs.declared.Device.{Device}
-use Rattle.chip.specs.State.{fresh, sleep, monitor, wakeup}
+use Rattle.chip.specs.State.{fresh, sleep, monitor, resetBit, wakeup}
 use Rattle.flags.specs.Flags.{raised, busError}
 use Rattle.flags.specs.Reset.{reset}
 use Rattle.transmit.specs.Transmit.{canBegin, aborted, stopped}
@@ -22,7 +22,7 @@ use Rattle.events.specs.declared.Event.{Event}
 use Rattle.events.specs.declared.Event.the-variants.{GoodFrame, ReceiveError, DominantBit, TransmitError, Begun, Completed, ArbitrationLost, ElevenRecessive}
 use Rattle.events.specs.declared.Event.the-variants.{BusQuiet, BusActivity, Ticks, TxenPin, MasterReset, Unknown}
 use Rattle.judged.specs.Judged.{impossible}
-use Rattle.changed.specs.Changed.{reachesBuffer, heard, frameAfter, errorReceived, dominantMet, errorSent, echoed, recessiveMet, ticked, pinSet, after}
+use Rattle.changed.specs.Changed.{reachesTemporary, heard, frameAfter, receiveErrorMet, dominantMet, transmitErrorMet, echoed, recessiveMet, ticked, pinSet, after}
 use Rattle.commands.specs.declared.Found.the-variants.{At}
 use Rattle.commands.specs.declared.Row.{Row}
 use Rattle.commands.specs.Table.{rows, lookup}
@@ -31,8 +31,9 @@ use Rattle.refused.specs.Refused.{findsFull}
 use Rattle.done.specs.Done.{registerChanged, messageTaken, entryTaken, receiveCleared, timeReset, filterWritten, maskWritten, recWritten, tecWritten, deeds, does}
 use Rattle.promise.specs.Promises.{OwnMessagesAreThoseWritten}
 use Rattle.promise.specs.Sequence.{Input, spi, wire, Step, shipped as step, number, run}
-use Rattle.promise.specs.Numbers.{row, lowest}
-use Rattle.promise.specs.Outbox.{Outbox, emptied, halted, orphaned, brought, commanded, happened, outboxAfter, outbox}
+use Rattle.promise.specs.Numbers.{row, firstSaying}
+use Rattle.promise.specs.Sums.{resetMet}
+use Rattle.promise.specs.Outbox.{Outbox, emptied, halted, aloneAfter, brought, commanded, happened, outboxAfter, outbox}
 use Rattle.promise.proofs.Among.{_and_, among-keeps, none-of}
 use Rattle.promise.proofs.Choices.{pick-keeps, or-left}
 use Rattle.promise.proofs.Steps.{keeps, by-transfer}
@@ -59,7 +60,7 @@ module _ (d : Device) where
 
   frame-same : (header : Header) (payload : List ℕ) (what : Arrival) → outgoing (frameAfter d header payload what) ≡ outgoing d
   unfolding frameAfter heard arrived raised
-  frame-same header payload what = pick-keeps (λ e. outgoing e ≡ outgoing d) (reachesBuffer what) _ _ refl activity-same
+  frame-same header payload what = pick-keeps (λ e. outgoing e ≡ outgoing d) (reachesTemporary what) _ _ refl activity-same
 
 module _ (d : Device) (o : Outbox) (h : Held d o) where
   -- ---- a transfer that is done
@@ -68,8 +69,8 @@ module _ (d : Device) (o : Outbox) (h : Held d o) where
     -- `commanded`, of a command for that, by the mode that acts after it
     abbrev commandedFor : ℕ → ℕ → Outbox
     commandedFor verb acting =
-        pick (eqb verb masterReset || (eqb verb writesCtrl0 && isSet 3 (byte bytes 2))) emptied
-        (pick (eqb verb clearTransmit) (record { queue = []; running = orphaned (o .running) })
+        pick (eqb verb masterReset || (eqb verb writesCtrl0 && resetBit (byte bytes 2))) emptied
+        (pick (eqb verb clearTransmit) (record { queue = []; running = aloneAfter (o .running) })
         (pick (eqb verb abortTransmission) (halted o)
         (pick (eqb verb writeMessage) (record { queue = o .queue ++ (brought bytes ∷ []); running = o .running })
         (onward o (d .acting) acting))))
@@ -104,7 +105,7 @@ module _ (d : Device) (o : Outbox) (h : Held d o) where
         ) (leaves _ refl refl))
 
   -- it has a command byte, and 0x12 found room: neither 3 nor 6 was given
-  done-held : (bytes buffer : List ℕ) (r : Row) → lookup rows (byte bytes 1) ≡ At r → lowest (row d (spi bytes buffer)) ≡ 0
+  done-held : (bytes buffer : List ℕ) (r : Row) → lookup rows (byte bytes 1) ≡ At r → firstSaying (row d (spi bytes buffer)) ≡ 0
       → Held (does d (r .verb) (r .index) bytes) (commanded o bytes (d .acting) (does d (r .verb) (r .index) bytes .acting))
   unfolding Holds
   done-held bytes buffer r at done =
@@ -129,8 +130,8 @@ module _ (d : Device) (o : Outbox) (h : Held d o) where
   unfolding echoed
   echoed-held what = sent-held _ o (arrived-held _ _ what)
 
-  after-held : (e : Event) → impossible d e ≡ false → Held (after d e) (happened o e)
-  unfolding after impossible errorReceived errorSent stopped busError raised recessiveMet ticked pinSet reset fresh
+  after-held : (e : Event) → impossible d e ≡ false → Held (after d e) (pick (resetMet e) emptied (happened o e))
+  unfolding after impossible receiveErrorMet transmitErrorMet stopped busError raised recessiveMet ticked pinSet reset fresh
   after-held (GoodFrame header acknowledged n) possible = h
   after-held (ReceiveError kind) possible = same-held d o h _ refl
   after-held DominantBit possible = same-held d o h _ (dominant-same d)
@@ -148,7 +149,7 @@ module _ (d : Device) (o : Outbox) (h : Held d o) where
 
   event-held : (e : Event) (payload : List ℕ) → Held (step d (wire e payload) .device) (outboxAfter d o (wire e payload) (step d (wire e payload)))
   event-held e payload =
-      by-happening (λ e ok given (after : Device). Held after (pick ok (happened o e) o)) d payload
+      by-happening (λ e ok given (after : Device). Held after (pick ok (pick (resetMet e) emptied (happened o e)) o)) d payload
       (λ e n. h)
       (λ header acknowledged n what possible. same-held d o h _ (frame-same d header payload what))
       (λ what possible back taken. echoed-held what)

@@ -6,18 +6,18 @@ use Prim.Native.Nat.{ℕ}
 use lib.ListN.{length}
 use lib.Bits.{bitOr}
 use lib.Dec.{eqb}
-use Rattle.base.specs.Bit.{byte, isSet}
+use Rattle.base.specs.Bit.{byte}
 use Rattle.base.specs.Pick.{pick, among}
 use Rattle.counters.specs.declared.Counters.{Counters}
-use Rattle.counters.specs.Rules.{writeRec, writeTec}
+use Rattle.counters.specs.Rules.{testRec, testTec}
 use Rattle.chip.specs.declared.Device.{Device}
 use Rattle.chip.specs.Parts.{with-regs}
-use Rattle.chip.specs.State.{fresh, modeOf, sleep, initialization}
+use Rattle.chip.specs.State.{fresh, modeOf, sleep, initialization, resetBit}
 use Rattle.flags.specs.Flags.{raised, mchg}
 use Rattle.flags.specs.Reset.{reset}
 use Rattle.transmit.specs.Transmit.{aborted, cleared, stopped}
 use Rattle.modes.specs.Modes.{put-ctrl0, changed, writeCtrl0}
-use Rattle.commands.specs.Verbs.{readErr, readIntf, masterReset, resetTime, writeCtrl0 as writesCtrl0, writeRec as writesRec, writeTec as writesTec}
+use Rattle.commands.specs.Verbs.{readErr, readIntf, masterReset, resetTime, writeCtrl0 as writesCtrl0, writeRec, writeTec}
 use Rattle.done.specs.Done.{settings, registersAfter, registerChanged, messageTaken, entryTaken, receiveCleared, timeReset, messageWritten, filterWritten}
 use Rattle.done.specs.Done.{maskWritten, recWritten, tecWritten, deeds, does}
 use Rattle.promise.specs.Sequence.{spi, shipped as step}
@@ -51,7 +51,7 @@ ctrl0Written w resets stays mode = record {
 }
 
 abbrev pub ctrl0After : Watched → ℕ → Watched
-ctrl0After w value = ctrl0Written w (isSet 3 value) (eqb (modeOf value) sleep || eqb (modeOf value) (w .acting)) (modeOf value)
+ctrl0After w value = ctrl0Written w (resetBit value) (eqb (modeOf value) sleep || eqb (modeOf value) (w .acting)) (modeOf value)
 
 -- the commands that change a part, and what each does
 abbrev pub changes : Watched → ℕ → List (ℕ × Watched)
@@ -59,8 +59,8 @@ changes w value =
     (masterReset, afterReset w) ∷
     (writesCtrl0, ctrl0After w value) ∷
     (resetTime, record { time = 0; counters = w .counters; errs = w .errs; intf = w .intf; acting = w .acting }) ∷
-    (writesRec, record { time = w .time; counters = writeRec (w .counters) value; errs = w .errs; intf = w .intf; acting = w .acting }) ∷
-    (writesTec, record { time = w .time; counters = writeTec (w .counters) value; errs = w .errs; intf = w .intf; acting = w .acting }) ∷
+    (writeRec, record { time = w .time; counters = testRec (w .counters) value; errs = w .errs; intf = w .intf; acting = w .acting }) ∷
+    (writeTec, record { time = w .time; counters = testTec (w .counters) value; errs = w .errs; intf = w .intf; acting = w .acting }) ∷
     (readErr, record { time = w .time; counters = w .counters; errs = 0; intf = w .intf; acting = w .acting }) ∷
     (readIntf, record { time = w .time; counters = w .counters; errs = w .errs; intf = 0; acting = w .acting }) ∷
     []
@@ -89,7 +89,7 @@ module _ (d : Device) (k : ℕ) (bytes : List ℕ) where
 
   ctrl0-agrees : Agrees writesCtrl0 (writeCtrl0 d value)
   unfolding writeCtrl0
-  ctrl0-agrees = ctrl0-cases (isSet 3 value) (eqb (modeOf value) sleep) (eqb (modeOf value) (d .acting))
+  ctrl0-agrees = ctrl0-cases (resetBit value) (eqb (modeOf value) sleep) (eqb (modeOf value) (d .acting))
 
   message-agrees : watched (messageWritten d bytes) ≡ watched d
   unfolding messageWritten
@@ -104,8 +104,8 @@ module _ (d : Device) (k : ℕ) (bytes : List ℕ) where
         none-of v masterReset (deeds d k bytes) out refl,
         none-of v writesCtrl0 (deeds d k bytes) out refl,
         none-of v resetTime (deeds d k bytes) out refl,
-        none-of v writesRec (deeds d k bytes) out refl,
-        none-of v writesTec (deeds d k bytes) out refl,
+        none-of v writeRec (deeds d k bytes) out refl,
+        none-of v writeTec (deeds d k bytes) out refl,
         none-of v readErr (settings (d .regs) value) none refl,
         none-of v readIntf (settings (d .regs) value) none refl,
       ))

@@ -5,10 +5,10 @@ use mathlib.Core.List.{List, []}
 use Prim.Native.Nat.{ℕ}
 use lib.Bits.{bitOr}
 use lib.Dec.{eqb}
-use Rattle.base.specs.Bit.{byte, isSet}
+use Rattle.base.specs.Bit.{byte}
 use Rattle.base.specs.Pick.{pick}
 use Rattle.chip.specs.declared.Device.{Device}
-use Rattle.chip.specs.State.{fresh, modeOf, sleep, initialization}
+use Rattle.chip.specs.State.{fresh, modeOf, sleep, initialization, resetBit}
 use Rattle.flags.specs.Flags.{mchg}
 use Rattle.commands.specs.Verbs.{readIntf, masterReset, writeCtrl0 as writesCtrl0}
 use Rattle.promise.specs.Promises.{IntfIsTheFlagsRaised}
@@ -34,14 +34,14 @@ module _ (d : Device) where
   -- what a transfer does to INTF, by its second byte, whether it is done, and what it asks for
   abbrev Shows : ℕ → Bool → (ℕ → Bool) → Watched → Type 0
   Shows value ok asked w =
-      w .intf ≡ pick (ok && (asked readIntf || (asked masterReset || (asked writesCtrl0 && isSet 3 value)))) 0
+      w .intf ≡ pick (ok && (asked readIntf || (asked masterReset || (asked writesCtrl0 && resetBit value)))) 0
       (together (d .regs .intf) (modeFlags (d .acting) (w .acting)))
 
   stays : d .regs .intf ≡ together (d .regs .intf) (modeFlags (d .acting) (d .acting))
   stays = sym (mode-stays (d .regs .intf) (d .acting))
 
   ctrl0-shows : (value : ℕ) → Shows value true (eqb writesCtrl0) (ctrl0After (watched d) value)
-  ctrl0-shows value = ctrl0-rises (isSet 3 value) (eqb (modeOf value) sleep) (eqb (modeOf value) (d .acting)) (d .regs .intf) (d .acting) (modeOf value) refl
+  ctrl0-shows value = ctrl0-rises (resetBit value) (eqb (modeOf value) sleep) (eqb (modeOf value) (d .acting)) (d .regs .intf) (d .acting) (modeOf value) refl
 
   spi-rises : (bytes buffer : List ℕ)
       → step d (spi bytes buffer) .device .regs .intf

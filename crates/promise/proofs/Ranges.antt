@@ -12,13 +12,13 @@ use Rattle.fifo.specs.declared.Message.{Message}
 use Rattle.fifo.specs.Queue.{empty, put, take, inRange}
 use Rattle.chip.specs.declared.Device.{Device}
 use Rattle.chip.specs.Proper.{registersInRange, sendingInRange, actingInRange, proper}
-use Rattle.chip.specs.State.{modeOf, sleep, initialization, first-in-fifo, alone}
+use Rattle.chip.specs.State.{modeOf, sleep, initialization, firstInFifo, alone}
 
 abbrev pub filhitFits : ℕ → Bool
 filhitFits n = eqb n 0 || (leb 8 n && leb n 15)
 
 abbrev pub sendingFits : ℕ → ℕ → Bool
-sendingFits sending waiting = pick (eqb sending first-in-fifo) (leb 1 waiting) (leb sending alone)
+sendingFits sending waiting = pick (eqb sending firstInFifo) (leb 1 waiting) (leb sending alone)
 
 abbrev pub actingFits : ℕ → ℕ → Bool
 actingFits acting ctrl0 = pick (eqb (modeOf ctrl0) sleep) (leb acting initialization) (eqb acting (modeOf ctrl0))

@@ -10,7 +10,8 @@ use lib.Dec.{eqb}
 use lib.ListN.{length, getD, take, drop, replicate, length-append, length-drop, length-replicate}
 use lib.Seq.{getD-take, getD-drop, length-take-le}
 use Rattle.base.specs.Pick.{among}
-use Rattle.base.proofs.Lists.{tabulate, listed, tabulate-same, drop-replicate}
+use Rattle.base.specs.Tabulate.{tabulate}
+use Rattle.base.proofs.Lists.{listed, tabulate-same, drop-replicate}
 use Rattle.fifo.specs.Queue.{next}
 use Rattle.chip.specs.declared.Device.{Device}
 use Rattle.commands.specs.declared.Found.the-variants.{At}

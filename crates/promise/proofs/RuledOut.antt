@@ -12,10 +12,10 @@ use Rattle.events.specs.declared.ErrorKind.the-variants.{Bit}
 use Rattle.events.specs.declared.Event.the-variants.{ReceiveError, BusQuiet, Ticks}
 use Rattle.commands.specs.declared.Found.the-variants.{At}
 use Rattle.commands.specs.declared.Row.{Row}
-use Rattle.commands.specs.Table.{rows, lookup, read as readRow}
+use Rattle.commands.specs.Table.{rows, lookup, readRow}
 use Rattle.commands.specs.Verbs.{readRec, readIntf}
 use Rattle.refused.specs.Refused.{lengthFits}
-use Rattle.promise.specs.Outbox.{Running, none, first, orphan, outbox, Runs, Sent}
+use Rattle.promise.specs.Outbox.{Running, none, first, alone, outbox, Runs, Sent}
 use Rattle.promise.specs.Wrong.{oldCompletion, nothingCopied, ghost, codeClipped, blind, clearsFirst, onlyFirst, leisurely, roomFirst, takesTwo, shortTakes}
 use Rattle.promise.specs.Wrong.{resetKeeps, modeClears, showsAnother, hitAtRead, repliesZeros, refusesAll, changesNothing, madeUpRec, madeUpTec, madeUpGroups}
 use Rattle.promise.specs.Wrong.{errCleared, intfKept}
@@ -26,7 +26,7 @@ use Rattle.promise.specs.Meaning.{means}
 use Rattle.promise.specs.Ledger.{hidden, buffered, ledger, Whole, Due}
 use Rattle.promise.specs.Sums.{Counted, Timed, Seen}
 use Rattle.promise.specs.Interrupts.{Raised}
-use Rattle.promise.proofs.Sides.{runs, runningBytes, sentSides, begun, orphaned, alike, Sides, wholeSides, given-due, dueSides, counts, countedSides}
+use Rattle.promise.proofs.Sides.{runs, runningBytes, sentSides, begun, completedAlone, alike, Sides, wholeSides, given-due, dueSides, counts, countedSides}
 use Rattle.promise.proofs.Sides.{queueSides, normal, scan, read, tooShort, readCtrl0, two, strangers, filtersLater, busOff, errorThenReset, differs-at, apart}
 use Rattle.promise.proofs.Sides.{allBytes, numbers, readSides, long}
 
@@ -47,7 +47,7 @@ counted-out w is differs kept = apart (countedSides w is) differs (ap counts (ke
 runs-bytes : (d : Device) (r : Running) → Runs d r → runs d r ≡ runningBytes r
 runs-bytes d none is = refl
 runs-bytes d (first m) is = ap (λ (m : Message). m .bytes) (is .1)
-runs-bytes d (orphan m) is = ap (λ (m : Message). m .bytes) (is .1)
+runs-bytes d (alone m) is = ap (λ (m : Message). m .bytes) (is .1)
 
 sent-out : (w : Machine) (is : List Input) → Apart (sentSides w is) → Sent w → ⊥
 sent-out w is differs kept =
@@ -95,7 +95,7 @@ pub code-clipped : Whole codeClipped → ⊥
 code-clipped = whole-out codeClipped (normal ∷ long ∷ []) (differs-at 10)
 
 pub old-completion : Sent oldCompletion → ⊥
-old-completion = sent-out oldCompletion orphaned (differs-at 11)
+old-completion = sent-out oldCompletion completedAlone (differs-at 11)
 
 pub nothing-copied : Sent nothingCopied → ⊥
 nothing-copied = sent-out nothingCopied begun (differs-at 12)

@@ -18,7 +18,7 @@ use Rattle.events.specs.declared.ErrorKind.{ErrorKind}
 use Rattle.events.specs.declared.Event.{Event}
 use Rattle.events.specs.declared.Event.the-variants.{GoodFrame, ReceiveError, DominantBit, TransmitError, Begun, Completed, ArbitrationLost, ElevenRecessive}
 use Rattle.events.specs.declared.Event.the-variants.{BusQuiet, BusActivity, Ticks, TxenPin, MasterReset, Unknown}
-use Rattle.changed.specs.Changed.{errBit, after, reachesBuffer, frameAfter, heard, echoed, errorReceived, dominantMet, errorSent, recessiveMet, ticked, pinSet}
+use Rattle.changed.specs.Changed.{errBit, after, reachesTemporary, frameAfter, heard, echoed, receiveErrorMet, dominantMet, transmitErrorMet, recessiveMet, ticked, pinSet}
 use Rattle.commands.specs.Verbs.{readErr}
 use Rattle.promise.specs.Promises.{ErrIsTheKindsSeen}
 use Rattle.promise.specs.Sequence.{Input, spi, wire, Step, shipped as step}
@@ -44,7 +44,7 @@ module _ (d : Device) (kinds : List ErrorKind) (same : d .regs .errs ≡ kindBit
   seen-too kind = ap (λ bits. bitOr bits (errBit kind)) same
 
   after-errs : (e : Event) → after d e .regs .errs ≡ kindBits (kindOf e ++ kinds)
-  unfolding after errorReceived busError raised dominantMet errorSent stopped begun sent recessiveMet ticked pinSet reset
+  unfolding after receiveErrorMet busError raised dominantMet transmitErrorMet stopped begun sent recessiveMet ticked pinSet reset
   after-errs (GoodFrame h acknowledged n) = same
   after-errs (ReceiveError kind) = seen-too kind
   after-errs DominantBit = pick-keeps (λ (e : Device). e .regs .errs ≡ kindBits kinds) (eqb (d .acting) monitor) d _ same same
@@ -63,7 +63,7 @@ module _ (d : Device) (kinds : List ErrorKind) (same : d .regs .errs ≡ kindBit
   frame-errs : (h : Header) (payload : List ℕ) (what : Arrival) → frameAfter d h payload what .regs .errs ≡ kindBits kinds
   unfolding frameAfter heard arrived raised
   frame-errs h payload what =
-      pick-keeps (λ (e : Device). e .regs .errs ≡ kindBits kinds) (reachesBuffer what) _ _ same (ap (λ x. x .2) (activity-unmoved d) ∙ same)
+      pick-keeps (λ (e : Device). e .regs .errs ≡ kindBits kinds) (reachesTemporary what) _ _ same (ap (λ x. x .2) (activity-unmoved d) ∙ same)
 
   on-wire : (e : Event) (payload : List ℕ) → Shows (wire e payload) (step d (wire e payload))
   unfolding echoed sent arrived raised

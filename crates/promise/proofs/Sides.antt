@@ -41,10 +41,10 @@ use Rattle.shown.specs.Shown
 use Rattle.done.specs.Done
 use Rattle.host.specs.Transfer
 use Rattle.promise.specs.Sequence.{Input, spi, wire, Given, replied, answered, Machine, shipped, number, run}
-use Rattle.promise.specs.Numbers.{row, lowest, said, numberGiven, Refused}
+use Rattle.promise.specs.Numbers.{row, firstSaying, valuesGiven, numberGiven, Refused}
 use Rattle.promise.specs.Meaning.{Meaning, frame, reading, clearing, other, means}
 use Rattle.promise.specs.Ledger.{Ledger, left, oldest, fields, due, hidden, buffered, Answers, ledger}
-use Rattle.promise.specs.Outbox.{Running, none, first, orphan, outbox}
+use Rattle.promise.specs.Outbox.{Running, none, first, alone, outbox}
 use Rattle.promise.specs.Readings.{readout}
 use Rattle.promise.specs.Sums.{sum, ticks, seen, kindBits}
 use Rattle.promise.specs.Interrupts.{flags, together}
@@ -78,7 +78,7 @@ wholeSides w is = (allBytes (ledger w is .taken ++ waiting (run w fresh is .rx))
 
 abbrev pub numbers : Given → List ℕ
 numbers (replied n buffer) = n ∷ buffer
-numbers (answered a) = number (answered a) ∷ said (answered a)
+numbers (answered a) = number (answered a) ∷ valuesGiven (answered a)
 
 -- what is given where nothing is to be said
 abbrev pub silent : Given → List ℕ
@@ -92,7 +92,7 @@ numbersDue d l buffer (reading verb) given = numbers (pick (eqb (left l) 0) (rep
 numbersDue d l buffer clearing given = number given ∷ silent given
 numbersDue d l buffer other given = number given ∷ silent given
 
-says-nothing : (given : Given) → said given ≡ [] → numbers given ≡ number given ∷ silent given
+says-nothing : (given : Given) → valuesGiven given ≡ [] → numbers given ≡ number given ∷ silent given
 says-nothing (replied n buffer) is = refl
 says-nothing (answered a) is = ap (λ l. number (answered a) ∷ l) is
 
@@ -118,12 +118,12 @@ countedSides w is = (counts (run w fresh is .counters), counts (sum w is))
 abbrev pub runs : Device → Running → List ℕ
 runs d none = []
 runs d (first m) = d .buffer .bytes
-runs d (orphan m) = d .buffer .bytes
+runs d (alone m) = d .buffer .bytes
 
 abbrev pub runningBytes : Running → List ℕ
 runningBytes none = []
 runningBytes (first m) = m .bytes
-runningBytes (orphan m) = m .bytes
+runningBytes (alone m) = m .bytes
 
 -- the messages that wait to be sent, and the transmit buffer while one runs
 abbrev pub sentSides : Machine → List Input → Sides
@@ -182,8 +182,8 @@ abbrev pub busOff : List Input
 busOff = spi (0x26 ∷ 0xFF ∷ []) [] ∷ begun ++ wire (TransmitError Bit true) [] ∷ wire ElevenRecessive [] ∷ []
 
 -- the FIFO emptied, another message written, and the first one completed
-abbrev pub orphaned : List Input
-orphaned = begun ++ spi (0x54 ∷ []) [] ∷ spi (0x12 ∷ 0x08 ∷ 0x24 ∷ 0x60 ∷ 0x00 ∷ []) [] ∷ wire Completed [] ∷ []
+abbrev pub completedAlone : List Input
+completedAlone = begun ++ spi (0x54 ∷ []) [] ∷ spi (0x12 ∷ 0x08 ∷ 0x24 ∷ 0x60 ∷ 0x00 ∷ []) [] ∷ wire Completed [] ∷ []
 
 abbrev pub errorThenReset : List Input
 errorThenReset = normal ∷ wire (ReceiveError Bit) [] ∷ spi (0x56 ∷ []) [] ∷ []
@@ -203,14 +203,14 @@ sides =
     dueSides repliesZeros two read ∷
     dueSides ghost (normal ∷ []) (wire BusQuiet []) ∷
     wholeSides codeClipped (normal ∷ long ∷ []) ∷
-    sentSides oldCompletion orphaned ∷
+    sentSides oldCompletion completedAlone ∷
     sentSides nothingCopied begun ∷
     readSides blind (normal ∷ wire (ReceiveError Bit) [] ∷ []) (0xEA ∷ []) readRec ∷
     readSides clearsFirst (normal ∷ wire (ReceiveError Bit) [] ∷ []) (0xDE ∷ []) readIntf ∷
     countedSides madeUpRec (normal ∷ wire (ReceiveError Bit) [] ∷ []) ∷
     countedSides madeUpTec (spi (0x26 ∷ 0x05 ∷ []) [] ∷ []) ∷
     countedSides madeUpGroups busOff ∷
-    (numberGiven refusesAll fresh readCtrl0 ∷ [], lowest (row fresh readCtrl0) ∷ []) ∷
+    (numberGiven refusesAll fresh readCtrl0 ∷ [], firstSaying (row fresh readCtrl0) ∷ []) ∷
     (run changesNothing fresh (wire (Ticks 1) [] ∷ []) .time ∷ [], ticks changesNothing (wire (Ticks 1) [] ∷ []) % 65536 ∷ []) ∷
     (run errCleared fresh errorThenReset .regs .errs ∷ [], kindBits (seen errCleared errorThenReset) ∷ []) ∷
     (run intfKept fresh errorThenReset .regs .intf ∷ [], together 0 (flags intfKept errorThenReset) ∷ []) ∷
@@ -220,19 +220,19 @@ sides =
 
 differ : map (λ s. alike (s .0) (s .1)) sides ≡ replicate 24 false
 unfolding Transfer.transfer Transfer.replyAfter Refused.lengthFits Refused.setsUp Refused.outsideSetUp Refused.findsFull Refused.readsMessage
-    Refused.findsNone Refused.refusal Refused.rowJudged Refused.judged Proper.registersInRange Proper.sendingInRange Proper.actingInRange
+    Refused.findsNone Refused.refusal Refused.rowJudged Refused.verdict Proper.registersInRange Proper.sendingInRange Proper.actingInRange
     Proper.proper State.modeOf State.fresh State.enabled State.bank Queue.empty Queue.put Queue.take Queue.next Queue.inRange Table.rows
-    Sent.headerSent Sent.rightLength Sent.readMessage Sent.stored Done.pattern Done.registersAfter Done.registerChanged Done.messageTaken
+    Sent.headerSent Sent.rightLength Sent.messageOf Sent.stored Done.pattern Done.registersAfter Done.registerChanged Done.messageTaken
     Done.entryTaken Done.receiveCleared Done.timeReset Done.messageWritten Done.filterWritten Done.maskWritten Done.recWritten Done.tecWritten
     Done.does Modes.changed Modes.writeCtrl0 Modes.canSleep Modes.busQuiet Modes.busActivity Flags.raised Flags.busError Reset.reset Receive.hit
-    Receive.room Receive.passed Receive.answered Receive.reason Receive.isQueued Receive.queuedFlag Receive.filterFlag Receive.queueAfter
+    Receive.room Receive.passed Receive.answered Receive.filtersAndRoom Receive.isQueued Receive.queuedFlag Receive.filterFlag Receive.queueAfter
     Receive.arrived Lowest.lowest Lowest.filhit Match.matches Length.dataLength Length.dataBytes Length.possible Length.dataFits Length.dataOf
-    Received.received Received.headerIn Tables.idBits Tables.idToSend Tables.readId Tables.compared Judged.quietMode Judged.noErrors Judged.runs
+    Received.received Received.headerIn Tables.idBits Tables.idToSend Tables.idAsRead Tables.compared Judged.quietMode Judged.noErrors Judged.runs
     Judged.impossibleFrame Judged.impossible Judged.takesNoFrames Judged.unacknowledged Judged.reason Judged.echo Judged.said Changed.errBit
-    Changed.countedFrame Changed.heard Changed.reachesBuffer Changed.frameAfter Changed.countedReceiveError Changed.errorReceived Changed.dominantMet
-    Changed.countedTransmitError Changed.errorSent Changed.echoed Changed.recessiveMet Changed.ticked Changed.pinSet Changed.arrival Changed.after
+    Changed.countedFrame Changed.heard Changed.reachesTemporary Changed.frameAfter Changed.countedReceiveError Changed.receiveErrorMet Changed.dominantMet
+    Changed.countedTransmitError Changed.transmitErrorMet Changed.echoed Changed.recessiveMet Changed.ticked Changed.pinSet Changed.arrival Changed.after
     Event.numberOf Event.reasonOf Event.valuesOf Event.answer Event.event Rules.receiveError Rules.dominantBit Rules.goodFrame Rules.transmitError
-    Rules.completed Rules.elevenRecessive Rules.writeRec Rules.writeTec Transmit.sends Transmit.canBegin Transmit.withoutTx1m Transmit.ctrl1Begun
+    Rules.completed Rules.elevenRecessive Rules.testRec Rules.testTec Transmit.sends Transmit.canBegin Transmit.withoutTx1m Transmit.ctrl1Begun
     Transmit.begun Transmit.stopped Transmit.aborted Transmit.leftAlone Transmit.cleared Transmit.stamped Transmit.fifoAfter
     Transmit.countedCompletion Transmit.sent Shown.cut Shown.register Shown.shows
 differ = refl

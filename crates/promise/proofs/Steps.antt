@@ -21,7 +21,7 @@ use Rattle.commands.specs.declared.Row.{Row}
 use Rattle.commands.specs.Table.{rows, lookup}
 use Rattle.refused.specs.declared.Verdict.{Verdict}
 use Rattle.refused.specs.declared.Verdict.the-variants.{Refused, Accepted}
-use Rattle.refused.specs.Refused.{refusal, rowJudged, judged}
+use Rattle.refused.specs.Refused.{refusal, rowJudged, verdict}
 use Rattle.refused.proofs.Accepted.{accepted-found}
 use Rattle.shown.specs.Shown.{shows}
 use Rattle.done.specs.Done.{does}
@@ -79,8 +79,8 @@ checks-sound true true v s = refl
 checks-sound true false v s = s
 checks-sound false q v s = refl
 
-judged-sound : (d : Device) (bytes : List ℕ) (room : ℕ) → Sound (judged d bytes room)
-unfolding judged
+judged-sound : (d : Device) (bytes : List ℕ) (room : ℕ) → Sound (verdict d bytes room)
+unfolding verdict
 judged-sound d bytes room =
     checks-sound (proper d) (eqb (length bytes) 0) (rowJudged d (lookup rows (byte bytes 1)) bytes room)
     (row-sound d (lookup rows (byte bytes 1)) bytes room)
@@ -91,14 +91,14 @@ same-step : (d : Device) (bytes buffer : List ℕ) (v : Verdict)
 same-step d bytes buffer (Refused n) = refl
 same-step d bytes buffer (Accepted r) = refl
 
-transfer-is : (d : Device) (bytes buffer : List ℕ) → step d (spi bytes buffer) ≡ judgedTransfer d bytes buffer (judged d bytes (length buffer))
+transfer-is : (d : Device) (bytes buffer : List ℕ) → step d (spi bytes buffer) ≡ judgedTransfer d bytes buffer (verdict d bytes (length buffer))
 unfolding transfer replyAfter
-transfer-is d bytes buffer = same-step d bytes buffer (judged d bytes (length buffer))
+transfer-is d bytes buffer = same-step d bytes buffer (verdict d bytes (length buffer))
 
 by-verdict : (P : Step → Type 0) (d : Device) (bytes buffer : List ℕ)
     → ((n : ℕ) → step d (spi bytes buffer) ≡ refusedTransfer d n buffer → eqb n 0 ≡ false → P (refusedTransfer d n buffer))
     → ((r : Row) → step d (spi bytes buffer) ≡ doneTransfer d r bytes buffer → lookup rows (byte bytes 1) ≡ At r → P (doneTransfer d r bytes buffer))
-    → (v : Verdict) → judged d bytes (length buffer) ≡ v → Sound v → P (judgedTransfer d bytes buffer v)
+    → (v : Verdict) → verdict d bytes (length buffer) ≡ v → Sound v → P (judgedTransfer d bytes buffer v)
 by-verdict P d bytes buffer no-way way (Refused n) e s = no-way n (transfer-is d bytes buffer ∙ ap (judgedTransfer d bytes buffer) e) s
 by-verdict P d bytes buffer no-way way (Accepted r) e s =
     way r (transfer-is d bytes buffer ∙ ap (judgedTransfer d bytes buffer) e) (accepted-found d bytes (length buffer) r e)
@@ -109,7 +109,7 @@ pub by-transfer : (P : Step → Type 0) (d : Device) (bytes buffer : List ℕ)
     → P (step d (spi bytes buffer))
 by-transfer P d bytes buffer no-way way =
     rw (transfer-is d bytes buffer)
-    (by-verdict P d bytes buffer no-way way (judged d bytes (length buffer)) refl (judged-sound d bytes (length buffer)))
+    (by-verdict P d bytes buffer no-way way (verdict d bytes (length buffer)) refl (judged-sound d bytes (length buffer)))
 
 -- ---- an event is refused, or done
 

@@ -5,11 +5,11 @@ use mathlib.Core.List.{List}
 use Prim.Native.Nat.{ℕ, _%_}
 use native.Mathlib.Omega.{arith}
 use lib.Dec.{eqb}
-use Rattle.base.specs.Bit.{byte, isSet}
+use Rattle.base.specs.Bit.{byte}
 use Rattle.base.specs.Pick.{pick}
 use Rattle.frame.specs.declared.Header.{Header}
 use Rattle.chip.specs.declared.Device.{Device}
-use Rattle.chip.specs.State.{fresh, monitor}
+use Rattle.chip.specs.State.{fresh, monitor, resetBit}
 use Rattle.flags.specs.Flags.{raised, busError}
 use Rattle.flags.specs.Reset.{reset}
 use Rattle.transmit.specs.Transmit.{stopped, begun, sent}
@@ -18,11 +18,11 @@ use Rattle.receive.specs.Receive.{arrived}
 use Rattle.events.specs.declared.Event.{Event}
 use Rattle.events.specs.declared.Event.the-variants.{GoodFrame, ReceiveError, DominantBit, TransmitError, Begun, Completed, ArbitrationLost, ElevenRecessive}
 use Rattle.events.specs.declared.Event.the-variants.{BusQuiet, BusActivity, Ticks, TxenPin, MasterReset, Unknown}
-use Rattle.changed.specs.Changed.{after, reachesBuffer, frameAfter, heard, echoed, errorReceived, dominantMet, errorSent, recessiveMet, ticked as tickedOn, pinSet}
+use Rattle.changed.specs.Changed.{after, reachesTemporary, frameAfter, heard, echoed, receiveErrorMet, dominantMet, transmitErrorMet, recessiveMet, ticked as tickedOn, pinSet}
 use Rattle.commands.specs.Verbs.{resetTime, masterReset, writeCtrl0 as writesCtrl0}
 use Rattle.promise.specs.Promises.{TheTimeTagIsTheTicks}
 use Rattle.promise.specs.Sequence.{Input, spi, wire, Step, shipped as step}
-use Rattle.promise.specs.Sums.{clocked, ticksAfter}
+use Rattle.promise.specs.Sums.{resetMet, clocked, ticksAfter}
 use Rattle.promise.proofs.Among.{_and_}
 use Rattle.promise.proofs.Choices.{pick-keeps}
 use Rattle.promise.proofs.Steps.{keeps}
@@ -41,14 +41,14 @@ module _ (d : Device) (t : ℕ) (same : d .time ≡ t % 65536) where
   on-spi : (bytes buffer : List ℕ) → Timely (spi bytes buffer) (step d (spi bytes buffer))
   on-spi bytes buffer =
       by-command
-      (λ ok asked (w : Watched). w .time ≡ pick (ok && (asked resetTime || (asked masterReset || (asked writesCtrl0 && isSet 3 (byte bytes 2))))) 0 t % 65536)
+      (λ ok asked (w : Watched). w .time ≡ pick (ok && (asked resetTime || (asked masterReset || (asked writesCtrl0 && resetBit (byte bytes 2))))) 0 t % 65536)
       d bytes buffer
       same
-      (refl and pick-time (isSet 3 (byte bytes 2)) (d .time) t same and refl and same and same and same and same and tt)
+      (refl and pick-time (resetBit (byte bytes 2)) (d .time) t same and refl and same and same and same and same and tt)
       (λ v none. rw (none resetTime refl, none masterReset refl, none writesCtrl0 refl) same)
 
-  after-time : (e : Event) → after d e .time ≡ ticksAfter t e % 65536
-  unfolding after errorReceived busError raised dominantMet errorSent stopped begun sent recessiveMet tickedOn pinSet reset fresh
+  after-time : (e : Event) → after d e .time ≡ pick (resetMet e) 0 (ticksAfter t e) % 65536
+  unfolding after receiveErrorMet busError raised dominantMet transmitErrorMet stopped begun sent recessiveMet tickedOn pinSet reset fresh
   after-time (GoodFrame h acknowledged n) = same
   after-time (ReceiveError kind) = same
   after-time DominantBit = pick-keeps (λ (e : Device). e .time ≡ t % 65536) (eqb (d .acting) monitor) d _ same same
@@ -67,12 +67,12 @@ module _ (d : Device) (t : ℕ) (same : d .time ≡ t % 65536) where
   frame-time : (h : Header) (payload : List ℕ) (what : Arrival) → frameAfter d h payload what .time ≡ t % 65536
   unfolding frameAfter heard arrived raised
   frame-time h payload what =
-      pick-keeps (λ (e : Device). e .time ≡ t % 65536) (reachesBuffer what) _ _ same (ap (λ x. x .0) (activity-unmoved d) ∙ same)
+      pick-keeps (λ (e : Device). e .time ≡ t % 65536) (reachesTemporary what) _ _ same (ap (λ x. x .0) (activity-unmoved d) ∙ same)
 
   on-wire : (e : Event) (payload : List ℕ) → Timely (wire e payload) (step d (wire e payload))
   unfolding echoed sent arrived raised
   on-wire e payload =
-      by-happening (λ e ok given (after : Device). after .time ≡ pick ok (ticksAfter t e) t % 65536) d payload
+      by-happening (λ e ok given (after : Device). after .time ≡ pick ok (pick (resetMet e) 0 (ticksAfter t e)) t % 65536) d payload
       (λ e n. same)
       (λ h acknowledged n what possible. frame-time h payload what)
       (λ what possible back taken. same)

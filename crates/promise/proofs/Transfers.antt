@@ -7,14 +7,14 @@ use native.Mathlib.Omega.{arith}
 use borrow.Author.Tests.{eqb-true, eqb-false, not-true, not-false}
 use lib.Dec.{eqb, ltb}
 use lib.ListN.{length, take}
-use Rattle.base.specs.Bit.{byte, isSet}
+use Rattle.base.specs.Bit.{byte}
 use Rattle.base.specs.Pick.{pick, among}
 use Rattle.base.specs.Put.{putOf}
 use Rattle.base.proofs.Booleans.{and-left, and-right}
 use Rattle.fifo.specs.declared.Fifo.{Fifo}
 use Rattle.fifo.specs.Queue.{empty, next, take as takeOff}
 use Rattle.chip.specs.declared.Device.{Device}
-use Rattle.chip.specs.State.{fresh, modeOf, sleep}
+use Rattle.chip.specs.State.{fresh, modeOf, sleep, resetBit}
 use Rattle.flags.specs.Flags.{raised}
 use Rattle.flags.specs.Reset.{reset}
 use Rattle.transmit.specs.Transmit.{aborted, cleared, stopped}
@@ -29,7 +29,7 @@ use Rattle.shown.specs.Shown.{shows}
 use Rattle.done.specs.Done.{registerChanged, messageTaken, entryTaken, receiveCleared, timeReset, messageWritten, filterWritten, maskWritten, recWritten, tecWritten}
 use Rattle.done.specs.Done.{deeds, does}
 use Rattle.promise.specs.Sequence.{spi, replied, Step, shipped as step, number}
-use Rattle.promise.specs.Numbers.{row, lowest}
+use Rattle.promise.specs.Numbers.{row, firstSaying}
 use Rattle.promise.specs.Meaning.{Meaning, frame, reading, clearing, other, meanings, commandMeans, means}
 use Rattle.promise.specs.Ledger.{Ledger, hidden}
 use Rattle.promise.proofs.Among.{_and_, among-keeps, among-outside}
@@ -84,7 +84,7 @@ module _ (d : Device) (l : Ledger) (h : Kept d l) (bytes buffer : List ℕ) wher
         and tt)
         (λ out is. left-alone)
 
-    refused-agrees : (f : Found) → lookup rows (byte bytes 1) ≡ f → n ≡ lowest (row d (spi bytes buffer))
+    refused-agrees : (f : Found) → lookup rows (byte bytes 1) ≡ f → n ≡ firstSaying (row d (spi bytes buffer))
         → Agrees d l buffer (commandMeans f bytes (length buffer)) (refusedTransfer d n buffer)
     unfolding Refusal
     refused-agrees Nothing at is = left-alone
@@ -119,9 +119,9 @@ module _ (d : Device) (l : Ledger) (h : Kept d l) (bytes buffer : List ℕ) wher
   by-bits false false true v = refl
   by-bits false false false v = refl
 
-  ctrl0-queue : writeCtrl0 d (byte bytes 2) .rx ≡ moved (pick (isSet 3 (byte bytes 2)) clearing other)
+  ctrl0-queue : writeCtrl0 d (byte bytes 2) .rx ≡ moved (pick (resetBit (byte bytes 2)) clearing other)
   unfolding writeCtrl0
-  ctrl0-queue = by-bits (isSet 3 (byte bytes 2)) (eqb (modeOf (byte bytes 2)) sleep) (eqb (modeOf (byte bytes 2)) (d .acting)) (byte bytes 2)
+  ctrl0-queue = by-bits (resetBit (byte bytes 2)) (eqb (modeOf (byte bytes 2)) sleep) (eqb (modeOf (byte bytes 2)) (d .acting)) (byte bytes 2)
 
   module _ (k : ℕ) where
     Doing : ℕ → Meaning → Type 0
@@ -172,12 +172,12 @@ module _ (d : Device) (l : Ledger) (h : Kept d l) (bytes buffer : List ℕ) wher
         and doing-read readData refl (does-queue readData) (shows-data d k)
         and doing-clear masterReset (does-queue masterReset)
         and doing-clear clearReceive (does-queue clearReceive)
-        and pick-under (λ m. does d writesCtrl0 k bytes .rx ≡ moved m → Doing writesCtrl0 m) (isSet 3 (byte bytes 2)) clearing other
+        and pick-under (λ m. does d writesCtrl0 k bytes .rx ≡ moved m → Doing writesCtrl0 m) (resetBit (byte bytes 2)) clearing other
         (λ resets. doing-clear writesCtrl0) (λ stays. doing-other writesCtrl0) (does-queue writesCtrl0)
         and tt)
         (λ out. doing-other verb (rw (among-outside verb (meanings bytes) (meanings bytes) other out refl) at (does-queue verb)))
 
-  module _ (r : Row) (at : lookup rows (byte bytes 1) ≡ At r) (done : lowest (row d (spi bytes buffer)) ≡ 0) where
+  module _ (r : Row) (at : lookup rows (byte bytes 1) ≡ At r) (done : firstSaying (row d (spi bytes buffer)) ≡ 0) where
     unsaid : (n : ℕ) → 0 < n → n ≤ 8 → row d (spi bytes buffer) n ≡ false
     unsaid n above below = lowest-none (row d (spi bytes buffer)) 8 1 n (omega arith) done above (omega arith)
 

@@ -1,6 +1,6 @@
 -- Demand 2, over sequences: INTF holds the flags raised since it was last read or reset (000, INTF).
 use mathlib.Core.Path.{_≡_}
-use mathlib.Core.Bool.{Bool, true, false, _&&_, _||_}
+use mathlib.Core.Bool.{_&&_, _||_}
 use mathlib.Core.List.{List, [], _∷_, _++_}
 use Prim.Native.Nat.{ℕ}
 use lib.Bits.{bitOr}
@@ -17,11 +17,11 @@ use Rattle.events.specs.declared.Event.{Event}
 use Rattle.events.specs.declared.Event.the-variants.{GoodFrame, ReceiveError, DominantBit, TransmitError, Begun, Completed, ArbitrationLost, ElevenRecessive}
 use Rattle.events.specs.declared.Event.the-variants.{BusQuiet, BusActivity, Ticks, TxenPin, MasterReset, Unknown}
 use Rattle.judged.specs.declared.Answer.the-variants.{Refused, Done, Arrived}
-use Rattle.changed.specs.Changed.{reachesBuffer}
+use Rattle.changed.specs.Changed.{reachesTemporary}
 use Rattle.commands.specs.Verbs.{readIntf}
 use Rattle.promise.specs.Meaning.{Meaning, frame, reading, clearing, other, means}
 use Rattle.promise.specs.Sequence.{Input, spi, wire, Given, replied, answered, Step, Machine, run, along}
-use Rattle.promise.specs.Sums.{done, asks, resetAsked}
+use Rattle.promise.specs.Sums.{done, asks, resetAsked, resetMet}
 
 -- F0MESS, F1MESS: filter 0 or 1 is the lowest match
 abbrev pub filterFlags : Hit → List ℕ
@@ -31,7 +31,7 @@ filterFlags Nothing = []
 -- RXTMP for a frame that reaches the temporary buffer, RXFIFO for one that is queued
 abbrev pub arrivalFlags : Hit → Arrival → List ℕ
 arrivalFlags found what =
-    pick (reachesBuffer what) (rxtmp ∷ (pick (isQueued what) (rxfifo ∷ []) [] ++ filterFlags found)) []
+    pick (reachesTemporary what) (rxtmp ∷ (pick (isQueued what) (rxfifo ∷ []) [] ++ filterFlags found)) []
 
 abbrev pub frameHit : Device → Meaning → Hit
 frameHit d (frame h payload earlier) = hit d h payload
@@ -78,19 +78,13 @@ eventFlags d e payload given after =
     (ownFlags e ++ (modeFlags (d .acting) (after .acting) ++ wakeFlags (d .acting) (after .acting))))
     []
 
-abbrev pub isClearing : Meaning → Bool
-isClearing clearing = true
-isClearing (frame h payload earlier) = false
-isClearing (reading verb) = false
-isClearing other = false
-
--- A read of INTF and a reset put all down. Of the events the MR pin alone clears.
+-- A read of INTF and a master reset put all down.
 abbrev pub flagsAfter : Device → List ℕ → Input → Step → List ℕ
 flagsAfter d flags (spi bytes buffer) s =
     pick (done (s .given) && (asks readIntf bytes || resetAsked bytes)) []
     (flags ++ modeFlags (d .acting) (s .device .acting))
 flagsAfter d flags (wire e payload) s =
-    pick (done (s .given) && isClearing (means d (wire e payload))) []
+    pick (done (s .given) && resetMet e) []
     (flags ++ eventFlags d e payload (s .given) (s .device))
 
 abbrev pub flags : Machine → List Input → List ℕ

@@ -25,7 +25,7 @@ use Rattle.receive.specs.declared.Arrival.the-variants.{Queued, A4, A5}
 use Rattle.receive.specs.Receive.{hit, message, isQueued}
 use Rattle.judged.specs.declared.Answer.the-variants.{Refused, Done, Arrived}
 use Rattle.commands.specs.Verbs.{readMessageWithTime, readMessage, readDataWithTime, readData}
-use Rattle.promise.specs.Numbers.{said}
+use Rattle.promise.specs.Numbers.{valuesGiven}
 use Rattle.promise.specs.Meaning.{Reason, Meaning, frame, reading, clearing, other, means}
 use Rattle.promise.specs.Sequence.{Input, spi, wire, Given, replied, answered, Machine, number, run, along}
 
@@ -124,8 +124,8 @@ abbrev pub Answers : Device → Ledger → List ℕ → Meaning → Given → Ty
 Answers d l buffer (frame h payload earlier) given = given ≡ answered (Arrived (due d l h payload earlier))
 Answers d l buffer (reading verb) given =
     given ≡ pick (eqb (left l) 0) (replied 7 buffer) (replied 0 (putOf (fields verb (oldest l)) buffer))
-Answers d l buffer clearing given = (number given ≡ 0) × (said given ≡ [])
-Answers d l buffer other given = said given ≡ []
+Answers d l buffer clearing given = (number given ≡ 0) × (valuesGiven given ≡ [])
+Answers d l buffer other given = valuesGiven given ≡ []
 
 -- the fields of a frame, read in the sixteen bytes of a message: identifier, kind, remote and code; the kind in byte 1; data; time tag and hit at arrival
 pub record Shows (d : Device) (h : Header) (payload : List ℕ) (m : Message) : Type 0 where

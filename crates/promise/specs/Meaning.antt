@@ -4,12 +4,12 @@ use mathlib.Core.List.{List, [], _∷_}
 use Prim.Native.Nat.{ℕ}
 use lib.Dec.{eqb, ltb}
 use lib.ListN.{length}
-use Rattle.base.specs.Bit.{byte, isSet}
+use Rattle.base.specs.Bit.{byte}
 use Rattle.base.specs.Pick.{pick, among}
 use Rattle.frame.specs.declared.Header.{Header}
 use Rattle.frame.specs.Received.{headerIn, dataIn}
 use Rattle.chip.specs.declared.Device.{Device}
-use Rattle.chip.specs.State.{loopback}
+use Rattle.chip.specs.State.{loopback, resetBit}
 use Rattle.receive.specs.declared.Arrival.{Arrival}
 use Rattle.receive.specs.declared.Arrival.the-variants.{A1, A2, A3}
 use Rattle.events.specs.declared.Event.{Event}
@@ -49,7 +49,7 @@ meanings bytes =
     (readData, reading readData) ∷
     (masterReset, clearing) ∷
     (clearReceive, clearing) ∷
-    (writeCtrl0, pick (isSet 3 (byte bytes 2)) clearing other) ∷
+    (writeCtrl0, pick (resetBit (byte bytes 2)) clearing other) ∷
     []
 
 -- a command of the right length, with room for its reply

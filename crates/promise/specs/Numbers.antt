@@ -30,16 +30,16 @@ found rule (At r) = rule r
 abbrev pub command : List ℕ → (Row → Bool) → Bool
 command bytes rule = found rule (lookup rows (byte bytes 1))
 
-abbrev pub isEmpty : List ℕ → Bool
-isEmpty bytes = eqb (length bytes) 0
+abbrev pub noBytes : List ℕ → Bool
+noBytes bytes = eqb (length bytes) 0
 
 -- 01's rows, in its order: whether the row of number n says so
 abbrev pub row : Device → Input → ℕ → Bool
 row d (spi bytes buffer) n =
     among n
     ((1, not (proper d)) ∷
-    (2, not (isEmpty bytes) && not (command bytes (λ r. true))) ∷
-    (3, isEmpty bytes || command bytes (λ r. not (lengthFits r bytes))) ∷
+    (2, not (noBytes bytes) && not (command bytes (λ r. true))) ∷
+    (3, noBytes bytes || command bytes (λ r. not (lengthFits r bytes))) ∷
     (4, command bytes (λ r. ltb (length buffer) (r .out))) ∷
     (5, command bytes (λ r. outsideSetUp (d .acting) (r .verb))) ∷
     (6, command bytes (λ r. findsFull (d .tx .count) (r .verb))) ∷
@@ -49,17 +49,17 @@ row d (spi bytes buffer) n =
 row d (wire e payload) n = among n ((1, not (proper d)) ∷ (8, impossible d e) ∷ []) false
 
 -- of m numbers from k on, the lowest whose row says so; 0 if none does
-abbrev pub lowestFrom : (ℕ → Bool) → ℕ → ℕ → ℕ
-lowestFrom says k zero = 0
-lowestFrom says k (suc m) = pick (says k) k (lowestFrom says (suc k) m)
+abbrev pub firstFrom : (ℕ → Bool) → ℕ → ℕ → ℕ
+firstFrom says k zero = 0
+firstFrom says k (suc m) = pick (says k) k (firstFrom says (suc k) m)
 
-abbrev pub lowest : (ℕ → Bool) → ℕ
-lowest says = lowestFrom says 1 8
+abbrev pub firstSaying : (ℕ → Bool) → ℕ
+firstSaying says = firstFrom says 1 8
 
 -- what an event says beside its number
-abbrev pub said : Given → List ℕ
-said (replied n buffer) = []
-said (answered a) = valuesOf a
+abbrev pub valuesGiven : Given → List ℕ
+valuesGiven (replied n buffer) = []
+valuesGiven (answered a) = valuesOf a
 
 -- what a refusal leaves: the device as it came, the lent buffer as it came, and nothing given but the number
 abbrev pub Untouched : Device → Input → Step → Type 0
@@ -78,7 +78,7 @@ module _ (step : Machine) where
 
   -- "Checks run in rising order; the first that applies is given, and none otherwise."
   abbrev pub First : Type 0
-  First = (d : Device) (i : Input) → numberGiven d i ≡ lowest (row d i)
+  First = (d : Device) (i : Input) → numberGiven d i ≡ firstSaying (row d i)
 
   -- Each number but 0 is given exactly when its row says so and no lower one does.
   abbrev pub Exactly : Type 0

@@ -2,14 +2,14 @@
 use mathlib.Core.Path.{_≡_}
 use mathlib.Core.Bool.{Bool, true, false}
 use mathlib.Core.List.{List, [], _∷_}
-use Prim.Native.Nat.{ℕ, _+_, _/_, _%_}
+use Prim.Native.Nat.{ℕ, _+_, _%_}
 use lib.Dec.{ltb}
 use lib.ListN.{length}
-use Rattle.base.specs.Bit.{byte}
+use Rattle.base.specs.Bit.{byte, timeBytes}
 use Rattle.base.specs.Pick.{among}
 use Rattle.base.specs.Put.{putOf}
 use Rattle.counters.specs.declared.Counters.{Counters}
-use Rattle.levels.specs.Levels.{errBits as levelBits, tecShown, groupsShown}
+use Rattle.levels.specs.Levels.{levelBits, tecShown, groupsShown}
 use Rattle.chip.specs.State.{fresh}
 use Rattle.commands.specs.declared.Found.the-variants.{At}
 use Rattle.commands.specs.declared.Row.{Row}
@@ -36,7 +36,7 @@ readingOf c errs intf time verb =
     (readRecessiveCount, groupsShown c ∷ []) ∷
     (readErr, (levelBits c + errs) ∷ []) ∷
     (readIntf, intf ∷ []) ∷
-    (readTime, time / 256 ∷ time % 256 ∷ []) ∷
+    (readTime, timeBytes time) ∷
     [])
     []
 

@@ -1,23 +1,23 @@
 -- Demand 2, over sequences: counters, time tag and ERR are what 01's rules make of all that happened. Each is written down along the sequence from the
 -- inputs and their answers; the counters' rules also ask the device for its acting mode and for BOR. None reads the part that it speaks of.
 use mathlib.Core.Path.{_≡_}
-use mathlib.Core.Bool.{Bool, false, not, _&&_, _||_}
+use mathlib.Core.Bool.{Bool, true, false, _&&_, _||_}
 use mathlib.Core.List.{List, [], _∷_, _++_}
 use Prim.Native.Nat.{ℕ, _+_, _%_}
 use lib.Bits.{bitOr}
 use lib.Dec.{eqb}
-use Rattle.base.specs.Bit.{byte, isSet}
+use Rattle.base.specs.Bit.{byte}
 use Rattle.base.specs.Pick.{pick}
 use Rattle.counters.specs.declared.Counters.{Counters}
-use Rattle.counters.specs.Rules.{zeroed, receiveError, dominantBit, goodFrame, transmitError, completed, elevenRecessive, writeRec, writeTec}
-use Rattle.chip.specs.State.{fresh, normal, monitor, bor}
+use Rattle.counters.specs.Rules.{zeroed, receiveError, dominantBit, goodFrame, transmitError, completed, elevenRecessive, testRec, testTec}
+use Rattle.chip.specs.State.{fresh, normal, unlessMonitor, resetBit, bor}
 use Rattle.events.specs.declared.ErrorKind.{ErrorKind}
 use Rattle.events.specs.declared.Event.{Event}
 use Rattle.events.specs.declared.Event.the-variants.{GoodFrame, ReceiveError, DominantBit, TransmitError, Begun, Completed, ArbitrationLost, ElevenRecessive}
 use Rattle.events.specs.declared.Event.the-variants.{BusQuiet, BusActivity, Ticks, TxenPin, MasterReset, Unknown}
 use Rattle.judged.specs.declared.Answer.the-variants.{Refused, Done, Arrived}
-use Rattle.changed.specs.Changed.{errBit, reachesBuffer}
-use Rattle.commands.specs.Verbs.{readErr, masterReset, resetTime, writeCtrl0, writeRec as writesRec, writeTec as writesTec}
+use Rattle.changed.specs.Changed.{errBit, reachesTemporary}
+use Rattle.commands.specs.Verbs.{readErr, masterReset, resetTime, writeCtrl0, writeRec, writeTec}
 use Rattle.promise.specs.Numbers.{command}
 use Rattle.promise.specs.Sequence.{Input, spi, wire, Given, replied, answered, Machine, number, run, along}
 
@@ -33,7 +33,24 @@ asks verb bytes = command bytes (λ r. eqb (r .verb) verb)
 
 -- a master reset: 0x56, or a write of CTRL0's RESET bit
 abbrev pub resetAsked : List ℕ → Bool
-resetAsked bytes = asks masterReset bytes || (asks writeCtrl0 bytes && isSet 3 (byte bytes 2))
+resetAsked bytes = asks masterReset bytes || (asks writeCtrl0 bytes && resetBit (byte bytes 2))
+
+-- and of the events the MR pin alone
+abbrev pub resetMet : Event → Bool
+resetMet MasterReset = true
+resetMet (GoodFrame h acknowledged n) = false
+resetMet (ReceiveError kind) = false
+resetMet DominantBit = false
+resetMet (TransmitError kind isCounted) = false
+resetMet Begun = false
+resetMet Completed = false
+resetMet ArbitrationLost = false
+resetMet ElevenRecessive = false
+resetMet BusQuiet = false
+resetMet BusActivity = false
+resetMet (Ticks count) = false
+resetMet (TxenPin level) = false
+resetMet Unknown = false
 
 -- ---- REC, TEC, bus off and its groups
 
@@ -42,15 +59,15 @@ abbrev pub lowersRec : ℕ → Given → Bool
 lowersRec acting (replied n buffer) = false
 lowersRec acting (answered (Refused n)) = false
 lowersRec acting (answered Done) = false
-lowersRec acting (answered (Arrived what)) = eqb acting normal && reachesBuffer what
+lowersRec acting (answered (Arrived what)) = eqb acting normal && reachesTemporary what
 
--- the rule of an event that was not refused; "Monitor mode moves neither"
+-- the rule of an event that was not refused
 abbrev pub countedEvent : ℕ → Bool → Counters → Event → Given → Counters
 countedEvent acting recovers c (GoodFrame h acknowledged n) given = pick (lowersRec acting given) (goodFrame c) c
-countedEvent acting recovers c (ReceiveError kind) given = pick (eqb acting monitor) c (receiveError c)
-countedEvent acting recovers c DominantBit given = pick (eqb acting monitor) c (dominantBit c)
-countedEvent acting recovers c (TransmitError kind counted) given = pick (counted && not (eqb acting monitor)) (transmitError c) c
-countedEvent acting recovers c Completed given = pick (eqb acting monitor) c (completed c)
+countedEvent acting recovers c (ReceiveError kind) given = unlessMonitor acting c (receiveError c)
+countedEvent acting recovers c DominantBit given = unlessMonitor acting c (dominantBit c)
+countedEvent acting recovers c (TransmitError kind counted) given = pick counted (unlessMonitor acting c (transmitError c)) c
+countedEvent acting recovers c Completed given = unlessMonitor acting c (completed c)
 countedEvent acting recovers c ElevenRecessive given = elevenRecessive c recovers
 countedEvent acting recovers c Begun given = c
 countedEvent acting recovers c ArbitrationLost given = c
@@ -64,8 +81,8 @@ countedEvent acting recovers c Unknown given = c
 -- 0x24 and 0x26
 abbrev pub countedWrite : Counters → List ℕ → Counters
 countedWrite c bytes =
-    pick (asks writesRec bytes) (writeRec c (byte bytes 2))
-    (pick (asks writesTec bytes) (writeTec c (byte bytes 2))
+    pick (asks writeRec bytes) (testRec c (byte bytes 2))
+    (pick (asks writeTec bytes) (testTec c (byte bytes 2))
     c)
 
 -- in the acting mode, and with BOR set or not
@@ -82,10 +99,10 @@ Counted step = (is : List Input) → run step fresh is .counters ≡ sum step is
 
 -- ---- the time tag
 
--- the ticks since the last reset, by 0x58, 0x56, CTRL0 or MR
+-- the ticks since the last reset, by 0x58 or a master reset
 abbrev pub ticksAfter : ℕ → Event → ℕ
 ticksAfter t (Ticks count) = t + count
-ticksAfter t MasterReset = 0
+ticksAfter t MasterReset = t
 ticksAfter t (GoodFrame h acknowledged n) = t
 ticksAfter t (ReceiveError kind) = t
 ticksAfter t DominantBit = t
@@ -101,7 +118,7 @@ ticksAfter t Unknown = t
 
 abbrev pub clocked : ℕ → Input → Given → ℕ
 clocked t (spi bytes buffer) given = pick (done given && (asks resetTime bytes || resetAsked bytes)) 0 t
-clocked t (wire e payload) given = pick (done given) (ticksAfter t e) t
+clocked t (wire e payload) given = pick (done given) (pick (resetMet e) 0 (ticksAfter t e)) t
 
 abbrev pub ticks : Machine → List Input → ℕ
 ticks step = along step (λ d t i. clocked t i (step d i .given)) fresh 0

@@ -16,7 +16,7 @@ use Rattle.fifo.specs.Queue.{empty, none, isEmpty, full, next, take}
 use Rattle.frame.specs.Received.{headerIn, dataIn}
 use Rattle.chip.specs.declared.Device.{Device}
 use Rattle.chip.specs.declared.Registers.{Registers}
-use Rattle.chip.specs.State.{idle, first-in-fifo, alone}
+use Rattle.chip.specs.State.{idle, firstInFifo, alone}
 use Rattle.chip.specs.Parts.{with-rx, with-tx, with-buffer, with-counters, with-regs, with-errs, with-intf}
 use Rattle.flags.specs.Flags.{txcplt}
 use Rattle.receive.specs.declared.Arrival.the-variants.{Queued, A5}
@@ -28,7 +28,7 @@ use Rattle.commands.specs.Table.{rows, lookup}
 use Rattle.refused.specs.Refused.{readsMessage}
 use Rattle.host.specs.Transfer.{replyAfter}
 use Rattle.promise.specs.Sequence.{Input, spi, wire, Given, replied, answered, Step, Machine, shipped, number}
-use Rattle.promise.specs.Numbers.{command, said}
+use Rattle.promise.specs.Numbers.{command, valuesGiven}
 use Rattle.promise.specs.Ledger.{saysQueued}
 use Rattle.promise.specs.Interrupts.{ownFlags}
 use Rattle.promise.specs.Sums.{done, resetAsked}
@@ -58,7 +58,7 @@ leisurely = but (λ d i s. pick (saysQueued (s .given) && isSet 0 (d .time)) (wi
 
 -- 01: "The room test is made before the filters, so a stranger's frame is answered A5."
 abbrev pub roomFirst : Machine
-roomFirst = but (λ d i s. pick (full (d .rx) && eqb (byte (said (s .given)) 1) 4) (with-given s (answered (Arrived A5))) s)
+roomFirst = but (λ d i s. pick (full (d .rx) && eqb (byte (valuesGiven (s .given)) 1) 4) (with-given s (answered (Arrived A5))) s)
 
 -- a read that takes two messages
 abbrev pub takesTwo : Machine
@@ -114,7 +114,7 @@ oldCompletion d (wire e payload) =
 -- one that begins a message without a copy of it: in loopback zeros arrive
 abbrev pub nothingCopied : Machine
 nothingCopied =
-    but (λ d i s. pick (eqb (d .sending) idle && eqb (s .device .sending) first-in-fifo) (with-device s (with-buffer (s .device) none)) s)
+    but (λ d i s. pick (eqb (d .sending) idle && eqb (s .device .sending) firstInFifo) (with-device s (with-buffer (s .device) none)) s)
 
 -- ---- replies
 

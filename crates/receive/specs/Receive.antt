@@ -37,9 +37,9 @@ passed d Nothing = A4
 unfoldable pub answered : Device → Hit → Arrival
 answered d found = pick (filton d) (passed d found) (room d)
 
--- the reason for a frame that the mode takes
-unfoldable pub reason : Device → Header → List ℕ → Arrival
-reason d h bytes = answered d (hit d h bytes)
+-- what becomes of a frame that the mode takes
+unfoldable pub filtersAndRoom : Device → Header → List ℕ → Arrival
+filtersAndRoom d h bytes = answered d (hit d h bytes)
 
 unfoldable pub isQueued : Arrival → Bool
 isQueued Queued = true

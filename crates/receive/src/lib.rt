@@ -1,7 +1,7 @@
 // A frame that the mode takes: the filters, the room, and what an arrival changes.
 ghost use mathlib.Core.Path.{_≡_};
 ghost use Rattle.chip.specs.State.{filton};
-ghost use Rattle.receive.specs.Receive.{hit, room, passed, answered, reason, isQueued, queuedFlag, filterFlag, queueAfter, arrived};
+ghost use Rattle.receive.specs.Receive.{hit, room, passed, answered, filtersAndRoom, isQueued, queuedFlag, filterFlag, queueAfter, arrived};
 use chip::Device;
 use fifo::Fifo;
 use fifo::Message;
@@ -73,8 +73,8 @@ fn answered(d: Device, found: Hit) -> Arrival
 }
 
 // What becomes of a frame that the mode takes.
-pub fn reason(d: Device, h: Header, payload: [u8; 8]) -> Arrival
-    ensures { λ r. ⌜ r ≡ reason d h payload ⌝ }
+pub fn filters_and_room(d: Device, h: Header, payload: [u8; 8]) -> Arrival
+    ensures { λ r. ⌜ r ≡ filtersAndRoom d h payload ⌝ }
 {
     answered(d, hit(d, h, payload))
 }

@@ -16,7 +16,7 @@ use Rattle.commands.specs.Table.{rows, lookup}
 use Rattle.commands.proofs.Rows.{out-le}
 use Rattle.refused.specs.declared.Verdict.{Verdict}
 use Rattle.refused.specs.declared.Verdict.the-variants.{Refused, Accepted}
-use Rattle.refused.specs.Refused.{refusal, rowJudged, judged}
+use Rattle.refused.specs.Refused.{refusal, rowJudged, verdict}
 
 module _ (d : Device) (bytes : List ℕ) (room : ℕ) (r : Row) where
   same-row : (t : Bool) (s : Row) (n : ℕ) → pick t (Accepted s) (Refused n) ≡ Accepted r → At s ≡ At r
@@ -33,9 +33,9 @@ module _ (d : Device) (bytes : List ℕ) (room : ℕ) (r : Row) where
   past-checks true false v e = e
   past-checks false q v e = cc
 
-  pub accepted-found : judged d bytes room ≡ Accepted r → lookup rows (byte bytes 1) ≡ At r
-  unfolding judged
+  pub accepted-found : verdict d bytes room ≡ Accepted r → lookup rows (byte bytes 1) ≡ At r
+  unfolding verdict
   accepted-found e = row-found (lookup rows (byte bytes 1)) (past-checks (proper d) (eqb (length bytes) 0) _ e)
 
-  pub accepted-out : judged d bytes room ≡ Accepted r → r .out ≤ 16
+  pub accepted-out : verdict d bytes room ≡ Accepted r → r .out ≤ 16
   accepted-out e = out-le (byte bytes 1) r (accepted-found e)

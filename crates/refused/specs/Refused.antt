@@ -6,6 +6,7 @@ use lib.Dec.{eqb, leb, ltb}
 use lib.ListN.{length, drop}
 use Rattle.base.specs.Bit.{byte}
 use Rattle.base.specs.Pick.{pick, among}
+use Rattle.fifo.specs.Queue.{eightWait, noneWaits}
 use Rattle.sent.specs.Sent.{rightLength}
 use Rattle.chip.specs.declared.Device.{Device}
 use Rattle.chip.specs.Proper.{proper}
@@ -34,7 +35,7 @@ outsideSetUp acting v = pick (eqb acting initialization) false (setsUp v)
 
 -- 6: "a message is written and eight are in the transmit FIFO", by how many there are
 unfoldable pub findsFull : ℕ → ℕ → Bool
-findsFull sending v = pick (eqb v writeMessage) (leb 8 sending) false
+findsFull waiting v = pick (eqb v writeMessage) (eightWait waiting) false
 
 -- 7: "a receive FIFO or history read finds none", by how many messages and entries there are
 unfoldable pub readsMessage : ℕ → Bool
@@ -43,8 +44,8 @@ readsMessage v =
 
 unfoldable pub findsNone : ℕ → ℕ → ℕ → Bool
 findsNone waiting entries v =
-    pick (readsMessage v) (eqb waiting 0)
-    (pick (eqb v readHistory) (eqb entries 0) false)
+    pick (readsMessage v) (noneWaits waiting)
+    (pick (eqb v readHistory) (noneWaits entries) false)
 
 -- 3 to 7 for a command in the table, and 0 where none applies; 4: "the lent reply buffer is shorter than the reply"
 unfoldable pub refusal : Device → Row → List ℕ → ℕ → ℕ
@@ -65,8 +66,8 @@ rowJudged d (At r) bytes room =
     (Refused (refusal d r bytes room))
 
 -- 1: "the state handed in has a count, place or field outside its range"; an empty transfer has no command byte to judge, so it is 3
-unfoldable pub judged : Device → List ℕ → ℕ → Verdict
-judged d bytes room =
+unfoldable pub verdict : Device → List ℕ → ℕ → Verdict
+verdict d bytes room =
     pick (proper d)
     (pick (eqb (length bytes) 0) (Refused 3) (rowJudged d (lookup rows (byte bytes 1)) bytes room))
     (Refused 1)

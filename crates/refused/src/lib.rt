@@ -1,7 +1,7 @@
 // Whether a transfer is refused, and by which number: the checks in rising order, each a question of its own.
 ghost use mathlib.Core.Path.{_≡_};
 ghost use Rattle.refused.specs.Refused.{lengthFits, setsUp, outsideSetUp, findsFull, readsMessage, findsNone};
-ghost use Rattle.refused.specs.Refused.{refusal, rowJudged, judged};
+ghost use Rattle.refused.specs.Refused.{refusal, rowJudged, verdict};
 use chip::Device;
 use chip::INITIALIZATION;
 use commands::Found;
@@ -57,11 +57,11 @@ fn outside_set_up(acting: u8, v: u8) -> bool
 }
 
 // 6: a message is written and eight are in the transmit FIFO.
-fn finds_full(sending: u8, v: u8) -> bool
-    ensures { λ r. ⌜ r ≡ findsFull sending v ⌝ }
+fn finds_full(waiting: u8, v: u8) -> bool
+    ensures { λ r. ⌜ r ≡ findsFull waiting v ⌝ }
 {
     if v == verb::WRITE_MESSAGE {
-        8 <= sending
+        8 <= waiting
     } else {
         false
     }
@@ -137,7 +137,7 @@ fn row_judged(d: Device, found: Found, bytes: &[u8], room: usize) -> Verdict
 }
 
 pub fn judge(d: Device, bytes: &[u8], room: usize) -> Verdict
-    ensures { λ r. ⌜ r ≡ judged d (now (bytes .entry)) room ⌝ }
+    ensures { λ r. ⌜ r ≡ verdict d (now (bytes .entry)) room ⌝ }
 {
     if chip::proper(d) {
         if bytes.len() == 0 {

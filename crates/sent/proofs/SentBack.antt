@@ -14,7 +14,7 @@ use Rattle.base.proofs.Booleans.{flag-le, flag-back}
 use Rattle.frame.specs.declared.Header.{Header}
 use Rattle.frame.specs.Length.{possible, dataBytes, dataOf}
 use Rattle.frame.specs.Tables.{idBits, idToSend}
-use Rattle.sent.specs.Sent.{isExtended, dataFrom, headerSent, standardHeader, extendedHeader, rightLength, readMessage}
+use Rattle.sent.specs.Sent.{isExtended, dataFrom, headerSent, standardHeader, extendedHeader, rightLength, messageOf}
 use Rattle.frame.proofs.Parts.{third-bit, last-bit, id-back, code-fits, id-fits, id-bits-lt, id-bits-back, header-path}
 
 -- "A message to send is tag, identifier (2 or 4 bytes), length code, data."
@@ -125,7 +125,7 @@ module _ (tag : ℕ) (h : Header) (payload : List ℕ) where
         )
         (le-leb (pick (h .extended) 6 4 + length payload) (pick (h .extended) 6 4 + 8) (omega arith))
 
-    pub message-back : readMessage (written tag h payload)
+    pub message-back : messageOf (written tag h payload)
         ≡ record { fits = true; message = record { tag = tag; header = h; bytes = dataOf h payload } }
-    unfolding readMessage
+    unfolding messageOf
     message-back = rw (right, header-sent-back tag h payload ok, from, after)

@@ -2,7 +2,7 @@
 use mathlib.Core.Path.{_≡_, refl}
 use mathlib.Core.Bool.{true}
 use Rattle.frame.specs.Length.{possible, dataOf}
-use Rattle.frame.specs.Tables.{readId}
+use Rattle.frame.specs.Tables.{idAsRead}
 use Rattle.frame.specs.Received.{received, headerIn, dataIn}
 use Rattle.frame.proofs.ReadBack.{header-back}
 use Rattle.sent.specs.declared.Message.{Message}
@@ -10,9 +10,9 @@ use Rattle.sent.specs.Sent.{stored}
 
 module _ (m : Message) where
   pub stored-header : possible (m .header) ≡ true → headerIn (stored m) ≡ m .header
-  unfolding stored received readId headerIn
+  unfolding stored received idAsRead headerIn
   stored-header ok = header-back (m .header) (m .bytes) 0 0 ok
 
   pub stored-data : dataIn (stored m) ≡ dataOf (m .header) (m .bytes)
-  unfolding stored received readId
+  unfolding stored received idAsRead
   stored-data = refl

@@ -51,8 +51,8 @@ messageIn s = record { tag = byte s 1; header = headerSent s; bytes = dataOf (he
 abbrev pub noMessage : Message
 noMessage = record { tag = 0; header = record { id = 0; extended = false; remote = false; code = 0 }; bytes = replicate 8 0 }
 
-unfoldable pub readMessage : List ℕ → Reading
-readMessage s =
+unfoldable pub messageOf : List ℕ → Reading
+messageOf s =
     pick (rightLength s)
     (record { fits = true; message = messageIn s })
     (record { fits = false; message = noMessage })

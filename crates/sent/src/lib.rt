@@ -2,7 +2,7 @@
 ghost use mathlib.Core.Path.{_≡_};
 ghost use mathlib.Core.Bool.{true};
 ghost use Rattle.sent.specs.Sent.{isExtended, dataFrom, standardHeader, extendedHeader, headerSent};
-ghost use Rattle.sent.specs.Sent.{rightLength, messageIn, readMessage, stored};
+ghost use Rattle.sent.specs.Sent.{rightLength, messageIn, messageOf, stored};
 use frame::Header;
 
 pub struct Message {
@@ -94,8 +94,8 @@ fn message_in(s: &[u8]) -> Message
     Message { tag, header, bytes }
 }
 
-pub fn read_message(s: &[u8]) -> Reading
-    ensures { λ r. ⌜ r ≡ readMessage (now (s .entry)) ⌝ }
+pub fn message_of(s: &[u8]) -> Reading
+    ensures { λ r. ⌜ r ≡ messageOf (now (s .entry)) ⌝ }
 {
     if right_length(s) {
         let message = message_in(s);

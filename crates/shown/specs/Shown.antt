@@ -1,7 +1,8 @@
 -- What each command shows (01, Transfers; 000, Table 1 and the register pages): a function of the state alone.
 use mathlib.Core.List.{List, [], _∷_, _++_}
-use Prim.Native.Nat.{ℕ, _/_, _%_}
+use Prim.Native.Nat.{ℕ, _%_}
 use lib.ListN.{take, drop, getD, replicate}
+use Rattle.base.specs.Bit.{timeBytes}
 use Rattle.base.specs.Pick.{among}
 use Rattle.base.specs.Put.{putOf}
 use Rattle.levels.specs.Levels.{tecShown, groupsShown}
@@ -57,6 +58,6 @@ shows d v k =
     (readFilter, padded ((getD (d .filters) (k % 8) absent) .bytes)) ∷
     (readMask, padded ((getD (d .masks) (k % 8) absent) .bytes)) ∷
     (readHistory, cut (next (d .history)) 3 16) ∷
-    (readTime, padded (d .time / 256 ∷ d .time % 256 ∷ [])) ∷
+    (readTime, padded (timeBytes (d .time))) ∷
     [])
-    (padded (register d v ∷ 0 ∷ []))
+    (padded (register d v ∷ []))

@@ -1,7 +1,8 @@
 // What a command shows: sixteen bytes, of which the reply is the first few.
 ghost use mathlib.Core.Path.{_≡_};
 ghost use mathlib.Core.List.{[], _∷_};
-ghost use Prim.Native.Nat.{_≤_, _/_, _%_};
+ghost use Prim.Native.Nat.{_≤_};
+ghost use Rattle.base.specs.Bit.{timeBytes};
 ghost use Rattle.shown.specs.Shown.{padded, cut, register, shows};
 use chip::Device;
 use chip::Pattern;
@@ -103,7 +104,7 @@ fn two(a: u8, b: u8) -> [u8; 16]
 }
 
 fn time_tag(time: u16) -> [u8; 16]
-    ensures { λ r. ⌜ r ≡ padded (time / 256 ∷ time % 256 ∷ []) ⌝ }
+    ensures { λ r. ⌜ r ≡ padded (timeBytes time) ⌝ }
 {
     two((time / 256) as u8, (time % 256) as u8)
 }

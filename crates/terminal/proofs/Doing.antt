@@ -15,25 +15,25 @@ use Rattle.chip.specs.declared.Device.{Device}
 use Rattle.chip.specs.Parts.{with-regs, with-intf}
 use Rattle.chip.specs.Proper.{registersInRange, sendingInRange, actingInRange, proper}
 use Rattle.chip.specs.State.{fresh, normal, modeOf}
-use Rattle.commands.specs.Table.{rows, read}
+use Rattle.commands.specs.Table.{rows, readRow}
 use Rattle.commands.specs.Verbs.{readIntf, readStatf, readMessage}
 use Rattle.drawn.specs.Drawn.{share, statf, int}
 use Rattle.refused.specs.declared.Verdict.{Verdict}
 use Rattle.refused.specs.declared.Verdict.the-variants.{Accepted}
-use Rattle.refused.specs.Refused.{lengthFits, setsUp, outsideSetUp, readsMessage, findsFull, findsNone, refusal, rowJudged, judged}
-use Rattle.fifo.specs.Queue.{empty, inRange, put, take as takeOff}
+use Rattle.refused.specs.Refused.{lengthFits, setsUp, outsideSetUp, readsMessage, findsFull, findsNone, refusal, rowJudged, verdict}
+use Rattle.fifo.specs.Queue.{empty, full, isEmpty, inRange, put, take as takeOff}
 use Rattle.frame.specs.Length.{dataLength, dataBytes, possible, dataFits}
 use Rattle.counters.specs.Rules.{goodFrame}
 use Rattle.flags.specs.Flags.{raised}
 use Rattle.transmit.specs.Transmit.{stopped}
 use Rattle.modes.specs.Modes.{changed, writeCtrl0}
 use Rattle.receive.specs.declared.Arrival.the-variants.{Queued}
-use Rattle.receive.specs.Receive.{hit, room, answered, reason as filtersAndRoom, isQueued, queuedFlag, filterFlag, queueAfter, arrived}
+use Rattle.receive.specs.Receive.{hit, room, answered, filtersAndRoom, isQueued, queuedFlag, filterFlag, queueAfter, arrived}
 use Rattle.events.specs.declared.Event.the-variants.{GoodFrame}
 use Rattle.judged.specs.declared.Answer.{Answer}
 use Rattle.judged.specs.declared.Answer.the-variants.{Arrived}
 use Rattle.judged.specs.Judged.{impossible, impossibleFrame, quietMode, takesNoFrames, unacknowledged, reason, said}
-use Rattle.changed.specs.Changed.{countedFrame, heard, reachesBuffer, frameAfter, arrival}
+use Rattle.changed.specs.Changed.{countedFrame, heard, reachesTemporary, frameAfter, arrival}
 use Rattle.shown.specs.Shown.{register, shows}
 use Rattle.done.specs.Done.{registersAfter, registerChanged, messageTaken, does}
 use Rattle.host.specs.Transfer.{outcome, transfer, replyAfter}
@@ -47,11 +47,11 @@ bit-one a b c d e f g h p q = omega arith
 pub empty-shown : (d : Device) → isSet 1 (statf d) ≡ eqb (d .rx .count) 0
 unfolding statf
 empty-shown d =
-    flag-back (eqb (d .rx .count) 0) _
-    (bit-one (flag (eqb (d .tx .count) 0)) (flag (eqb (d .tx .count) 8)) (flag (eqb (d .history .count) 8))
+    flag-back (isEmpty (d .rx)) _
+    (bit-one (flag (isEmpty (d .tx))) (flag (full (d .tx))) (flag (full (d .history)))
     (flag (errw (d .counters))) (flag (errp (d .counters))) (flag (d .counters .busoff))
-    (flag (eqb (d .rx .count) 0)) (flag (eqb (d .rx .count) 8))
-    (flag-le (eqb (d .rx .count) 0)) (flag-le (eqb (d .rx .count) 8)))
+    (flag (isEmpty (d .rx))) (flag (full (d .rx)))
+    (flag-le (isEmpty (d .rx))) (flag-le (full (d .rx))))
 
 module _ (d : Device) (in-range : proper d ≡ true) (acts : d .acting ≡ normal) where
   after : (bytes : List ℕ) (v : Verdict) → Device
@@ -59,29 +59,29 @@ module _ (d : Device) (in-range : proper d ≡ true) (acts : d .acting ≡ norma
 
   -- reading INTF clears it
   pub flags-read : asked d 0xDE 1 ≡ with-regs d (with-intf (d .regs) 0)
-  unfolding after transfer judged rowJudged refusal lengthFits outsideSetUp setsUp findsFull readsMessage findsNone rows does registerChanged registersAfter
+  unfolding after transfer verdict rowJudged refusal lengthFits outsideSetUp setsUp findsFull readsMessage findsNone rows does registerChanged registersAfter
   flags-read =
-      let accepted : judged d (0xDE ∷ []) 1 ≡ Accepted (read 0xDE 1 readIntf) = rw (in-range, acts) in
+      let accepted : verdict d (0xDE ∷ []) 1 ≡ Accepted (readRow 0xDE 1 readIntf) = rw (in-range, acts) in
       ap (after (0xDE ∷ [])) accepted
 
   -- reading STATF changes nothing
   pub status-read : asked d 0xE2 1 ≡ d
-  unfolding after transfer judged rowJudged refusal lengthFits outsideSetUp setsUp findsFull readsMessage findsNone rows does registerChanged registersAfter
+  unfolding after transfer verdict rowJudged refusal lengthFits outsideSetUp setsUp findsFull readsMessage findsNone rows does registerChanged registersAfter
   status-read =
-      let accepted : judged d (0xE2 ∷ []) 1 ≡ Accepted (read 0xE2 1 readStatf) = rw (in-range, acts) in
+      let accepted : verdict d (0xE2 ∷ []) 1 ≡ Accepted (readRow 0xE2 1 readStatf) = rw (in-range, acts) in
       ap (after (0xE2 ∷ [])) accepted
 
   pub status-shows : reply d 0xE2 1 ≡ statf d ∷ []
-  unfolding replyAfter judged rowJudged refusal lengthFits outsideSetUp setsUp findsFull readsMessage findsNone rows shows register
+  unfolding replyAfter verdict rowJudged refusal lengthFits outsideSetUp setsUp findsFull readsMessage findsNone rows shows register
   status-shows = rw (in-range, acts)
 
   pub status-is : statusOf d ≡ record { device = d; waits = not (eqb (d .rx .count) 0) }
   status-is = rw (status-shows, status-read, empty-shown d)
 
   pub message-read : eqb (d .rx .count) 0 ≡ false → asked d 0x48 14 ≡ messageTaken d
-  unfolding after transfer judged rowJudged refusal lengthFits outsideSetUp setsUp findsFull readsMessage findsNone rows does
+  unfolding after transfer verdict rowJudged refusal lengthFits outsideSetUp setsUp findsFull readsMessage findsNone rows does
   message-read some =
-      let accepted : judged d (0x48 ∷ []) 14 ≡ Accepted (read 0x48 14 readMessage) = rw (in-range, acts, some) in
+      let accepted : verdict d (0x48 ∷ []) 14 ≡ Accepted (readRow 0x48 14 readMessage) = rw (in-range, acts, some) in
       ap (after (0x48 ∷ [])) accepted
 
 -- ---- the parts that the terminal counts on, after each step
@@ -116,7 +116,7 @@ module _ (d : Device) (in-range : proper d ≡ true) (listens : Listens d) (few 
   answer-is = rw (in-range, listens .acts, listens .on, listens .unfiltered, lt-leb 8 (d .rx .count) few)
 
   brought-is : brought d scan ≡ heard d scanner scan Queued
-  unfolding event arrival frameAfter reachesBuffer
+  unfolding event arrival frameAfter reachesTemporary
   brought-is = ap (λ (a : Answer). busOutcome d (GoodFrame scanner true 8) scan a .device) answer-is
 
   heard-listens : Listens (heard d scanner scan Queued)
@@ -150,16 +150,16 @@ int-is d listens wakes = rw (listens .enables, wakes) (by-count (eqb (d .rx .cou
 -- ---- the terminal is switched on: three transfers, computed
 
 pub on-listens : Listens switchedOn
-unfolding transfer judged rowJudged refusal lengthFits outsideSetUp setsUp findsFull readsMessage findsNone rows does registerChanged registersAfter
+unfolding transfer verdict rowJudged refusal lengthFits outsideSetUp setsUp findsFull readsMessage findsNone rows does registerChanged registersAfter
     fresh modeOf proper registersInRange sendingInRange actingInRange empty inRange writeCtrl0 changed stopped raised
 on-listens = record { acts = refl; unfiltered = refl; on = refl; enables = refl }
 
 pub on-wakes : Wakes switchedOn
-unfolding transfer judged rowJudged refusal lengthFits outsideSetUp setsUp findsFull readsMessage findsNone rows does registerChanged registersAfter
+unfolding transfer verdict rowJudged refusal lengthFits outsideSetUp setsUp findsFull readsMessage findsNone rows does registerChanged registersAfter
     fresh modeOf proper registersInRange sendingInRange actingInRange empty inRange writeCtrl0 changed stopped raised
 on-wakes = refl
 
 pub on-empty : switchedOn .rx .count ≡ 0
-unfolding transfer judged rowJudged refusal lengthFits outsideSetUp setsUp findsFull readsMessage findsNone rows does registerChanged registersAfter
+unfolding transfer verdict rowJudged refusal lengthFits outsideSetUp setsUp findsFull readsMessage findsNone rows does registerChanged registersAfter
     fresh modeOf proper registersInRange sendingInRange actingInRange empty inRange writeCtrl0 changed stopped raised
 on-empty = refl

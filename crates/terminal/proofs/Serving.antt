@@ -10,7 +10,8 @@ use lib.Dec.{eqb, leb}
 use lib.ListN.{length, take, getD, replicate}
 use lib.Seq.{getD-drop, take-all}
 use Rattle.base.specs.Put.{putOf}
-use Rattle.base.proofs.Lists.{tabulate, listed, tabulate-same}
+use Rattle.base.specs.Tabulate.{tabulate}
+use Rattle.base.proofs.Lists.{listed, tabulate-same}
 use Rattle.fifo.specs.declared.Message.{Message}
 use Rattle.fifo.specs.Queue.{waiting}
 use Rattle.frame.specs.Length.{dataOf, possible, dataFits, dataBytes, dataLength}

@@ -1,10 +1,10 @@
 -- A transmission, from its start to each of its ends (01, Bus events; 000, CTRL1 and the transmit history).
 use mathlib.Core.Bool.{Bool, not, _&&_, _||_}
-use mathlib.Core.List.{_∷_}
+use mathlib.Core.List.{_∷_, _++_}
 use Prim.Native.Nat.{ℕ, _+_, _*_, _/_, _%_}
 use lib.Dec.{eqb}
 use lib.ListN.{drop}
-use Rattle.base.specs.Bit.{byte, isSet}
+use Rattle.base.specs.Bit.{byte, timeBytes}
 use Rattle.base.specs.Pick.{pick}
 use Rattle.counters.specs.declared.Counters.{Counters}
 use Rattle.counters.specs.Rules.{completed}
@@ -14,7 +14,7 @@ use Rattle.fifo.specs.Queue.{empty, isEmpty, put, take, next}
 use Rattle.chip.specs.declared.Device.{Device}
 use Rattle.chip.specs.declared.Registers.{Registers}
 use Rattle.chip.specs.Parts.{with-regs, with-ctrl1, with-mtag, with-counters, with-tx, with-buffer, with-sending, with-history}
-use Rattle.chip.specs.State.{normal, loopback, monitor, idle, first-in-fifo, alone, enabled}
+use Rattle.chip.specs.State.{normal, loopback, unlessMonitor, idle, firstInFifo, alone, osm, enabled}
 use Rattle.flags.specs.Flags.{raised, txcplt}
 
 -- the modes that can send
@@ -32,14 +32,14 @@ withoutTx1m ctrl1 = ctrl1 / 128 * 128 + ctrl1 % 64
 
 -- 000, CTRL1: TX1M is reset "by initiation of transmission if the OSM bit is set"
 unfoldable pub ctrl1Begun : ℕ → ℕ
-ctrl1Begun ctrl1 = pick (isSet 5 ctrl1) (withoutTx1m ctrl1) ctrl1
+ctrl1Begun ctrl1 = pick (osm ctrl1) (withoutTx1m ctrl1) ctrl1
 
 -- "A begun message is copied to the transmit buffer and leaves the FIFO when completed."
 unfoldable pub begun : Device → Device
 begun d =
     with-sending
     (with-buffer (with-regs d (with-ctrl1 (d .regs) (ctrl1Begun (d .regs .ctrl1)))) (next (d .tx)))
-    first-in-fifo
+    firstInFifo
 
 -- "abort, an error or lost arbitration leaves it first in the FIFO"; after 0x54, "if it fails or is aborted it is gone"
 unfoldable pub stopped : Device → Device
@@ -53,6 +53,7 @@ disabled r = with-ctrl1 r (r .ctrl1 % 64)
 unfoldable pub aborted : Device → Device
 aborted d = stopped (with-regs d (disabled (d .regs)))
 
+-- 0x54: "the current message may still complete", out of the FIFO
 unfoldable pub leftAlone : ℕ → ℕ
 leftAlone sending = pick (eqb sending idle) idle alone
 
@@ -62,15 +63,16 @@ cleared d = with-sending (with-tx (with-regs d (disabled (d .regs))) empty) (lef
 
 -- the time tag in bytes 2 and 3
 unfoldable pub stamped : Message → ℕ → Message
-stamped m time = record { bytes = byte (m .bytes) 1 ∷ time / 256 ∷ time % 256 ∷ drop 3 (m .bytes) }
+stamped m time = record { bytes = byte (m .bytes) 1 ∷ (timeBytes time ++ drop 3 (m .bytes)) }
 
--- The completed message leaves the FIFO, unless 0x54 took it out before: one that was written since then stays.
+-- The completed message "leaves the FIFO when completed", unless 0x54 took it out before. "After 0x54 during a transmission, a new message is
+-- written and the old completion removes it. It must stay."
 unfoldable pub fifoAfter : Fifo → ℕ → Fifo
-fifoAfter tx sending = pick (eqb sending first-in-fifo) (take tx) tx
+fifoAfter tx sending = pick (eqb sending firstInFifo) (take tx) tx
 
--- "Completed: TEC - 1"; "Monitor mode moves neither"
+-- "Completed: TEC - 1, not below 0."
 unfoldable pub countedCompletion : Counters → ℕ → Counters
-countedCompletion c acting = pick (eqb acting monitor) c (completed c)
+countedCompletion c acting = unlessMonitor acting c (completed c)
 
 -- MTAG is "the last two bits of the host assigned message tag of the last successful transmission".
 abbrev pub tagBits : Message → ℕ

@@ -4,7 +4,7 @@ ghost use Rattle.transmit.specs.Transmit.{sends, canBegin, withoutTx1m, 
 ghost use Rattle.transmit.specs.Transmit.{ctrl1Begun, leftAlone, fifoAfter, countedCompletion, sent};
 use chip::ALONE;
 use chip::Device;
-use chip::FIRST;
+use chip::FIRST_IN_FIFO;
 use chip::IDLE;
 use chip::LOOPBACK;
 use chip::MONITOR;
@@ -70,7 +70,7 @@ pub fn begun(d: Device) -> Device
     let mut e = d;
     e.regs.ctrl1 = ctrl1;
     e.buffer = m;
-    e.sending = FIRST;
+    e.sending = FIRST_IN_FIFO;
     e
 }
 
@@ -124,7 +124,11 @@ fn stamped(m: Message, time: u16) -> Message
 fn fifo_after(tx: Fifo, sending: u8) -> Fifo
     ensures { λ r. ⌜ r ≡ fifoAfter tx sending ⌝ }
 {
-    if sending == FIRST { fifo::take(tx) } else { tx }
+    if sending == FIRST_IN_FIFO {
+        fifo::take(tx)
+    } else {
+        tx
+    }
 }
 
 fn counted_completion(c: Counters, acting: u8) -> Counters

@@ -7,8 +7,8 @@ use Rattle.changed.proofs.after.Tie as tie
 enum-known-e : tie.Need-enum-known-e
 enum-known-e c = search needs
 
-error-received-requires : tie.Need-error-received-requires
-error-received-requires c κs = search needs
+receive-error-met-requires : tie.Need-receive-error-met-requires
+receive-error-met-requires c κs = search needs
 
 enum-told : tie.Need-enum-told
 enum-told c = search needs
@@ -19,8 +19,8 @@ dominant-met-requires c κs = search needs
 enum-known-e-2 : tie.Need-enum-known-e-2
 enum-known-e-2 c = search needs
 
-error-sent-requires : tie.Need-error-sent-requires
-error-sent-requires c κs = search needs
+transmit-error-met-requires : tie.Need-transmit-error-met-requires
+transmit-error-met-requires c κs = search needs
 
 enum-told-2 : tie.Need-enum-told-2
 enum-told-2 c = search needs
@@ -84,7 +84,7 @@ enum-told-10 c = search needs
 
 returns : tie.Need-returns
 unfolding after
-returns c = rw (c .before .before .e .given .1) (c .error-received .ensures)
+returns c = rw (c .before .before .e .given .1) (c .receive-error-met .ensures)
 
 returns-2 : tie.Need-returns-2
 unfolding after
@@ -92,7 +92,7 @@ returns-2 c = rw (c .before .enum-told .given .1) (c .dominant-met .ensures)
 
 returns-3 : tie.Need-returns-3
 unfolding after
-returns-3 c = rw (c .before .before .e2 .given .1) (c .error-sent .ensures)
+returns-3 c = rw (c .before .before .e2 .given .1) (c .transmit-error-met .ensures)
 
 returns-4 : tie.Need-returns-4
 unfolding after
@@ -143,11 +143,11 @@ after-spec =
     tie.close
     (tie.spec
     enum-known-e
-    error-received-requires
+    receive-error-met-requires
     enum-told
     dominant-met-requires
     enum-known-e-2
-    error-sent-requires
+    transmit-error-met-requires
     enum-told-2
     begun-requires
     enum-told-3

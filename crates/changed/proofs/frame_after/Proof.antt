@@ -5,8 +5,8 @@ use borrow.Author.Needs.{needs}
 use Rattle.changed.proofs.frame_after.Statement.{statement}
 use Rattle.changed.proofs.frame_after.Tie as tie
 
-reaches-buffer-requires : tie.Need-reaches-buffer-requires
-reaches-buffer-requires c κs = search needs
+reaches-temporary-requires : tie.Need-reaches-temporary-requires
+reaches-temporary-requires c κs = search needs
 
 heard-requires : tie.Need-heard-requires
 heard-requires c κs = search needs
@@ -16,13 +16,13 @@ bus-activity-requires c κs = search needs
 
 returns : tie.Need-returns
 unfolding frameAfter
-returns c = rw (← c .before .before .reaches-buffer .ensures, ← c .heard .ensures) (search (picks, judges, c .before .if1 .taken))
+returns c = rw (← c .before .before .reaches-temporary .ensures, ← c .heard .ensures) (search (picks, judges, c .before .if1 .taken))
 
 returns-2 : tie.Need-returns-2
 unfolding frameAfter
-returns-2 c = rw (← c .before .before .reaches-buffer .ensures, ← c .bus-activity .ensures) (search (picks, judges, c .before .if1 .left))
+returns-2 c = rw (← c .before .before .reaches-temporary .ensures, ← c .bus-activity .ensures) (search (picks, judges, c .before .if1 .left))
 
 pub frame-after-spec : {M : Type 1} → statement M
 frame-after-spec =
     tie.close
-    (tie.spec reaches-buffer-requires heard-requires bus-activity-requires returns returns-2)
+    (tie.spec reaches-temporary-requires heard-requires bus-activity-requires returns returns-2)

@@ -6,7 +6,8 @@ use Prim.Native.Nat.{ℕ, _+_, _*_, _/_, _%_}
 use native.Mathlib.Omega.{arith}
 use borrow.Author.Needs.{needs}
 use lib.ListN.{getD}
-use Rattle.base.proofs.Lists.{tabulate, table-at}
+use Rattle.base.specs.Tabulate.{tabulate}
+use Rattle.base.proofs.Lists.{table-at}
 use Rattle.commands.specs.Table.{rows, placeIn}
 use Rattle.commands.proofs.place.Statement.{statement}
 use Rattle.commands.proofs.place.Tie as tie

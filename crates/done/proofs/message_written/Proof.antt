@@ -10,17 +10,17 @@ returns : tie.Need-returns
 unfolding messageWritten
 returns c = search (picks, judges)
 
-sub-read-message : tie.Need-sub-read-message
-sub-read-message c = search needs
+sub-message-of : tie.Need-sub-message-of
+sub-message-of c = search needs
 
-part-read-message-start : tie.Need-part-read-message-start
-part-read-message-start c = search needs
+part-message-of-start : tie.Need-part-message-of-start
+part-message-of-start c = search needs
 
-part-read-message-end : tie.Need-part-read-message-end
-part-read-message-end c = search needs
+part-message-of-end : tie.Need-part-message-of-end
+part-message-of-end c = search needs
 
-read-message-requires : tie.Need-read-message-requires
-read-message-requires c κs = search needs
+message-of-requires : tie.Need-message-of-requires
+message-of-requires c κs = search needs
 
 stored-requires : tie.Need-stored-requires
 stored-requires c κs = search needs
@@ -34,7 +34,7 @@ returns-2 c =
     rw (
       c .put .ensures,
       c .before .before .stored .ensures,
-      c .before .before .before .before .read-message .ensures,
+      c .before .before .before .before .message-of .ensures,
       part-to-end (c .before .before .before .before .before .before .before .before .args .bytes .now) 1,
     )
     (search (picks, c .before .before .before .before .before .before .if1 .left))
@@ -44,10 +44,10 @@ message-written-spec =
     tie.close
     (tie.spec
     returns
-    sub-read-message
-    part-read-message-start
-    part-read-message-end
-    read-message-requires
+    sub-message-of
+    part-message-of-start
+    part-message-of-end
+    message-of-requires
     stored-requires
     put-requires
     returns-2)

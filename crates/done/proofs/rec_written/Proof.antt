@@ -5,12 +5,12 @@ use borrow.Author.Needs.{needs}
 use Rattle.done.proofs.rec_written.Statement.{statement}
 use Rattle.done.proofs.rec_written.Tie as tie
 
-write-rec-requires : tie.Need-write-rec-requires
-write-rec-requires c κs = search needs
+test-rec-requires : tie.Need-test-rec-requires
+test-rec-requires c κs = search needs
 
 returns : tie.Need-returns
 unfolding recWritten
-returns c = rw (← c .write-rec .ensures) (search (picks, judges))
+returns c = rw (← c .test-rec .ensures) (search (picks, judges))
 
 pub rec-written-spec : {M : Type 1} → statement M
-rec-written-spec = tie.close (tie.spec write-rec-requires returns)
+rec-written-spec = tie.close (tie.spec test-rec-requires returns)

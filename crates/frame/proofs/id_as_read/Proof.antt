@@ -1,6 +1,6 @@
 -- `frame::id_as_read` meets its contract. Assumes nothing.
 use borrow.Author.Needs.{needs}
-use Rattle.frame.specs.Tables.{readId}
+use Rattle.frame.specs.Tables.{idAsRead}
 use Rattle.frame.proofs.id_as_read.Statement.{statement}
 use Rattle.frame.proofs.id_as_read.Tie as tie
 
@@ -38,7 +38,7 @@ add-t12 : tie.Need-add-t12
 add-t12 c = search needs
 
 returns : tie.Need-returns
-unfolding readId
+unfolding idAsRead
 returns c =
     let p = c .before .before .before .before .before .id-parts .ensures in
     rw (p .0, p .1, p .2, p .3, p .4, c .before .before .before .before .flag .ensures .0, c .before .before .before .flag2 .ensures .0)

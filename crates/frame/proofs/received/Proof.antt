@@ -6,7 +6,7 @@ use borrow.Author.Needs.{needs}
 use lib.Seq.{length-take-le}
 use lib.ListN.{length}
 use Rattle.frame.specs.Received.{received}
-use Rattle.frame.specs.Tables.{readId}
+use Rattle.frame.specs.Tables.{idAsRead}
 use Rattle.frame.specs.Length.{dataOf}
 use Rattle.frame.proofs.Data.{data-bytes-le, data-put}
 use Rattle.frame.proofs.received.Statement.{statement}
@@ -70,7 +70,7 @@ put-requires : tie.Need-put-requires
 put-requires c κs = search needs
 
 returns : tie.Need-returns
-unfolding received readId
+unfolding received idAsRead
 returns c =
     let a = c .before .before .before .before .before .before .before .before .args in
     let eight : length (a .t2) ≡ 8 = search needs in

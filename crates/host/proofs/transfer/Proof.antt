@@ -1,7 +1,7 @@
 -- `host::transfer` meets its contract. Assumes nothing.
 use Rattle.refused.proofs.Accepted.{accepted-out}
 use Rattle.host.specs.Transfer.{transfer, replyAfter}
-use Rattle.refused.specs.Refused.{judged}
+use Rattle.refused.specs.Refused.{verdict}
 use Rattle.refused.specs.declared.Verdict.the-variants.{Accepted}
 use lib.ListN.{length, length-take}
 use native.Mathlib.Omega.{arith}
@@ -14,7 +14,7 @@ use Rattle.host.proofs.transfer.Tie as tie
 
 -- the verdict, as the definition gives it
 told : (c : tie.After-verdict2)
-    → judged
+    → verdict
     (c .before .before .before .before .before .args .d)
     (c .before .before .before .before .before .args .bytes .now)
     (length (c .before .before .before .before .before .args .reply .now))

@@ -11,8 +11,8 @@ header-in-requires c κs = search needs
 data-in-requires : tie.Need-data-in-requires
 data-in-requires c κs = search needs
 
-reason-requires : tie.Need-reason-requires
-reason-requires c κs = search needs
+filters-and-room-requires : tie.Need-filters-and-room-requires
+filters-and-room-requires c κs = search needs
 
 returns : tie.Need-returns
 unfolding echo
@@ -20,7 +20,7 @@ returns c =
     rw (
       ← c .before .before .header-in .ensures,
       ← c .before .data-in .ensures,
-      ← c .reason .ensures,
+      ← c .filters-and-room .ensures,
     )
     (search (picks, judges, c .before .before .before .before .before .if1 .taken))
 
@@ -30,4 +30,4 @@ returns-2 c = search (picks, judges)
 
 pub echo-spec : {M : Type 1} → statement M
 echo-spec =
-    tie.close (tie.spec header-in-requires data-in-requires reason-requires returns returns-2)
+    tie.close (tie.spec header-in-requires data-in-requires filters-and-room-requires returns returns-2)

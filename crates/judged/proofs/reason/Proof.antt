@@ -11,8 +11,8 @@ takes-no-frames-requires c κs = search needs
 unacknowledged-requires : tie.Need-unacknowledged-requires
 unacknowledged-requires c κs = search needs
 
-reason-requires : tie.Need-reason-requires
-reason-requires c κs = search needs
+filters-and-room-requires : tie.Need-filters-and-room-requires
+filters-and-room-requires c κs = search needs
 
 returns : tie.Need-returns
 unfolding reason
@@ -20,7 +20,7 @@ returns c =
     rw (
       ← c .before .before .before .takes-no-frames .ensures,
       ← c .before .before .unacknowledged .ensures,
-      ← c .before .reason .ensures,
+      ← c .before .filters-and-room .ensures,
     )
     (search (picks, judges, c .if1 .taken))
 
@@ -30,7 +30,7 @@ returns-2 c =
     rw (
       ← c .before .before .before .before .takes-no-frames .ensures,
       ← c .before .before .before .unacknowledged .ensures,
-      ← c .before .before .reason .ensures,
+      ← c .before .before .filters-and-room .ensures,
     )
     (search (picks, judges, c .if2 .taken, c .before .if1 .left))
 
@@ -40,7 +40,7 @@ returns-3 c =
     rw (
       ← c .before .before .before .before .before .takes-no-frames .ensures,
       ← c .before .before .before .before .unacknowledged .ensures,
-      ← c .before .before .before .reason .ensures,
+      ← c .before .before .before .filters-and-room .ensures,
     )
     (search (picks, judges, c .if3 .taken, c .before .if2 .left, c .before .before .if1 .left))
 
@@ -50,7 +50,7 @@ returns-4 c =
     rw (
       ← c .before .before .before .before .before .takes-no-frames .ensures,
       ← c .before .before .before .before .unacknowledged .ensures,
-      ← c .before .before .before .reason .ensures,
+      ← c .before .before .before .filters-and-room .ensures,
     )
     (search (picks, judges, c .if3 .left, c .before .if2 .left, c .before .before .if1 .left))
 
@@ -60,7 +60,7 @@ reason-spec =
     (tie.spec
     takes-no-frames-requires
     unacknowledged-requires
-    reason-requires
+    filters-and-room-requires
     returns
     returns-2
     returns-3

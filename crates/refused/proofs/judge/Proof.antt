@@ -1,5 +1,5 @@
 -- `refused::judge` meets its contract. Assumes nothing.
-use Rattle.refused.specs.Refused.{judged}
+use Rattle.refused.specs.Refused.{verdict}
 use Rattle.base.specs.Pick.{picks, judges}
 use borrow.Author.Needs.{needs}
 use Rattle.refused.proofs.judge.Statement.{statement}
@@ -9,7 +9,7 @@ proper-requires : tie.Need-proper-requires
 proper-requires c κs = search needs
 
 returns : tie.Need-returns
-unfolding judged
+unfolding verdict
 returns c = rw (← c .before .before .proper .ensures) (search (picks, judges, c .if2 .taken, c .before .if1 .taken))
 
 at-requires : tie.Need-at-requires
@@ -22,7 +22,7 @@ row-judged-requires : tie.Need-row-judged-requires
 row-judged-requires c κs = search needs
 
 returns-2 : tie.Need-returns-2
-unfolding judged
+unfolding verdict
 returns-2 c =
     rw (
       ← c .before .before .before .before .before .proper .ensures,
@@ -33,7 +33,7 @@ returns-2 c =
     (search (picks, judges, c .before .before .before .if2 .left, c .before .before .before .before .if1 .taken))
 
 returns-3 : tie.Need-returns-3
-unfolding judged
+unfolding verdict
 returns-3 c = rw (← c .before .proper .ensures) (search (picks, judges, c .if1 .left))
 
 pub judge-spec : {M : Type 1} → statement M

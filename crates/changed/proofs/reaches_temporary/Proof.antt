@@ -1,9 +1,9 @@
--- `changed::reaches_buffer` meets its contract. Assumes nothing.
-use Rattle.changed.specs.Changed.{reachesBuffer}
+-- `changed::reaches_temporary` meets its contract. Assumes nothing.
+use Rattle.changed.specs.Changed.{reachesTemporary}
 use Rattle.base.specs.Pick.{picks, judges}
 use borrow.Author.Needs.{needs}
-use Rattle.changed.proofs.reaches_buffer.Statement.{statement}
-use Rattle.changed.proofs.reaches_buffer.Tie as tie
+use Rattle.changed.proofs.reaches_temporary.Statement.{statement}
+use Rattle.changed.proofs.reaches_temporary.Tie as tie
 
 enum-told : tie.Need-enum-told
 enum-told c = search needs
@@ -24,31 +24,31 @@ enum-told-6 : tie.Need-enum-told-6
 enum-told-6 c = search needs
 
 returns : tie.Need-returns
-unfolding reachesBuffer
+unfolding reachesTemporary
 returns c = search (picks, judges)
 
 returns-2 : tie.Need-returns-2
-unfolding reachesBuffer
+unfolding reachesTemporary
 returns-2 c = search (picks, judges)
 
 returns-3 : tie.Need-returns-3
-unfolding reachesBuffer
+unfolding reachesTemporary
 returns-3 c = search (picks, judges)
 
 returns-4 : tie.Need-returns-4
-unfolding reachesBuffer
+unfolding reachesTemporary
 returns-4 c = search (picks, judges)
 
 returns-5 : tie.Need-returns-5
-unfolding reachesBuffer
+unfolding reachesTemporary
 returns-5 c = search (picks, judges)
 
 returns-6 : tie.Need-returns-6
-unfolding reachesBuffer
+unfolding reachesTemporary
 returns-6 c = search (picks, judges)
 
-pub reaches-buffer-spec : {M : Type 1} → statement M
-reaches-buffer-spec =
+pub reaches-temporary-spec : {M : Type 1} → statement M
+reaches-temporary-spec =
     tie.close
     (tie.spec
     enum-told

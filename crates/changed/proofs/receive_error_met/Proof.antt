@@ -1,9 +1,9 @@
--- `changed::error_received` meets its contract. Assumes nothing.
-use Rattle.changed.specs.Changed.{errorReceived}
+-- `changed::receive_error_met` meets its contract. Assumes nothing.
+use Rattle.changed.specs.Changed.{receiveErrorMet}
 use Rattle.base.specs.Pick.{picks, judges}
 use borrow.Author.Needs.{needs}
-use Rattle.changed.proofs.error_received.Statement.{statement}
-use Rattle.changed.proofs.error_received.Tie as tie
+use Rattle.changed.proofs.receive_error_met.Statement.{statement}
+use Rattle.changed.proofs.receive_error_met.Tie as tie
 
 counted-receive-error-requires : tie.Need-counted-receive-error-requires
 counted-receive-error-requires c κs = search needs
@@ -15,9 +15,9 @@ bus-error-requires : tie.Need-bus-error-requires
 bus-error-requires c κs = search needs
 
 returns : tie.Need-returns
-unfolding errorReceived
+unfolding receiveErrorMet
 returns c = rw (← c .before .before .counted-receive-error .ensures, ← c .before .err-bit .ensures, ← c .bus-error .ensures) (search (picks, judges))
 
-pub error-received-spec : {M : Type 1} → statement M
-error-received-spec =
+pub receive-error-met-spec : {M : Type 1} → statement M
+receive-error-met-spec =
     tie.close (tie.spec counted-receive-error-requires err-bit-requires bus-error-requires returns)

@@ -1,8 +1,8 @@
--- `levels::err_bits` meets its contract. Assumes nothing.
+-- `levels::level_bits` meets its contract. Assumes nothing.
 use borrow.Author.Needs.{needs}
-use Rattle.levels.specs.Levels.{errBits}
-use Rattle.levels.proofs.err_bits.Statement.{statement}
-use Rattle.levels.proofs.err_bits.Tie as tie
+use Rattle.levels.specs.Levels.{levelBits}
+use Rattle.levels.proofs.level_bits.Statement.{statement}
+use Rattle.levels.proofs.level_bits.Tie as tie
 
 flag-requires : tie.Need-flag-requires
 flag-requires c κs = search needs
@@ -35,7 +35,7 @@ add-result-2 : tie.Need-add-result-2
 add-result-2 c = search needs
 
 returns : tie.Need-returns
-unfolding errBits
+unfolding levelBits
 returns c =
     rw (
       c .before .before .before .before .flag .ensures .0,
@@ -45,8 +45,8 @@ returns c =
       c .before .rxerrp .ensures,
     )
 
-pub err-bits-spec : {M : Type 1} → statement M
-err-bits-spec =
+pub level-bits-spec : {M : Type 1} → statement M
+level-bits-spec =
     tie.close
     (tie.spec
     flag-requires

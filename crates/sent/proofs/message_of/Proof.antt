@@ -1,10 +1,10 @@
--- `sent::read_message` meets its contract. Assumes nothing.
+-- `sent::message_of` meets its contract. Assumes nothing.
 use mathlib.Core.Path.{refl, sym, _∙_}
 use borrow.Author.Needs.{needs}
 use Rattle.base.specs.Pick.{pick-yes, pick-no}
-use Rattle.sent.specs.Sent.{readMessage}
-use Rattle.sent.proofs.read_message.Statement.{statement}
-use Rattle.sent.proofs.read_message.Tie as tie
+use Rattle.sent.specs.Sent.{messageOf}
+use Rattle.sent.proofs.message_of.Statement.{statement}
+use Rattle.sent.proofs.message_of.Tie as tie
 
 right-length-requires : tie.Need-right-length-requires
 right-length-requires c κs = search needs
@@ -13,13 +13,13 @@ message-in-requires : tie.Need-message-in-requires
 message-in-requires c κs = sym (c .before .right-length .ensures) ∙ c .if1 .taken
 
 returns : tie.Need-returns
-unfolding readMessage
+unfolding messageOf
 returns c = pick-yes _ _ _ _ _ (sym (c .before .before .right-length .ensures) ∙ c .before .if1 .taken) (rw (c .message-in .ensures))
 
 returns-2 : tie.Need-returns-2
-unfolding readMessage
+unfolding messageOf
 returns-2 c = pick-no _ _ _ _ _ (sym (c .before .right-length .ensures) ∙ c .if1 .left) refl
 
-pub read-message-spec : {M : Type 1} → statement M
-read-message-spec =
+pub message-of-spec : {M : Type 1} → statement M
+message-of-spec =
     tie.close (tie.spec right-length-requires message-in-requires returns returns-2)

@@ -1,9 +1,9 @@
--- `changed::error_sent` meets its contract. Assumes nothing.
-use Rattle.changed.specs.Changed.{errorSent}
+-- `changed::transmit_error_met` meets its contract. Assumes nothing.
+use Rattle.changed.specs.Changed.{transmitErrorMet}
 use Rattle.base.specs.Pick.{picks, judges}
 use borrow.Author.Needs.{needs}
-use Rattle.changed.proofs.error_sent.Statement.{statement}
-use Rattle.changed.proofs.error_sent.Tie as tie
+use Rattle.changed.proofs.transmit_error_met.Statement.{statement}
+use Rattle.changed.proofs.transmit_error_met.Tie as tie
 
 counted-transmit-error-requires : tie.Need-counted-transmit-error-requires
 counted-transmit-error-requires c κs = search needs
@@ -18,7 +18,7 @@ stopped-requires : tie.Need-stopped-requires
 stopped-requires c κs = search needs
 
 returns : tie.Need-returns
-unfolding errorSent
+unfolding transmitErrorMet
 returns c =
     rw (
       ← c .before .before .before .counted-transmit-error .ensures,
@@ -28,8 +28,8 @@ returns c =
     )
     (search (picks, judges))
 
-pub error-sent-spec : {M : Type 1} → statement M
-error-sent-spec =
+pub transmit-error-met-spec : {M : Type 1} → statement M
+transmit-error-met-spec =
     tie.close
     (tie.spec
     counted-transmit-error-requires

@@ -1,0 +1,18 @@
+-- `receive::filters_and_room` meets its contract. Assumes nothing.
+use Rattle.receive.specs.Receive.{filtersAndRoom}
+use borrow.Author.Needs.{needs}
+use Rattle.receive.proofs.filters_and_room.Statement.{statement}
+use Rattle.receive.proofs.filters_and_room.Tie as tie
+
+hit-requires : tie.Need-hit-requires
+hit-requires c κs = search needs
+
+answered-requires : tie.Need-answered-requires
+answered-requires c κs = search needs
+
+returns : tie.Need-returns
+unfolding filtersAndRoom
+returns c = rw (c .answered .ensures, c .before .hit .ensures)
+
+pub filters-and-room-spec : {M : Type 1} → statement M
+filters-and-room-spec = tie.close (tie.spec hit-requires answered-requires returns)
