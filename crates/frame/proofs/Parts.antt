@@ -9,7 +9,7 @@ use lib.Dec.{leb, ltb, lit<}
 use lib.Pow.{mod-pow-add}
 use Rattle.base.specs.Bit.{bit, bits}
 use Rattle.base.specs.Pick.{pick}
-use Rattle.base.proofs.Booleans.{and-left, and-right}
+use Rattle.base.proofs.Booleans.{and-left, and-right, pick-keeps}
 use Rattle.frame.specs.declared.Header.{Header}
 use Rattle.frame.specs.Length.{possible}
 use Rattle.frame.specs.Tables.{idBits, idFrom}
@@ -89,11 +89,7 @@ module _ (h : Header) (ok : possible h ≡ true) where
 
   pub id-bits-lt : idBits h < 2 ^ 29
   unfolding idBits
-  id-bits-lt = go (h .extended)
-    where
-      go : (e : Bool) → pick e (h .id % 2 ^ 29) (h .id % 2 ^ 11 * 2 ^ 18) < 2 ^ 29
-      go true = omega arith
-      go false = omega arith
+  id-bits-lt = pick-keeps (λ (n : ℕ). n < 2 ^ 29) (h .extended) _ _ (omega arith) (omega arith)
 
   -- a standard identifier is ID28..18
   pub id-bits-back : pick (h .extended) (idBits h) (idBits h / 2 ^ 18) ≡ h .id

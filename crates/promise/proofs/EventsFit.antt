@@ -79,17 +79,8 @@ module _ (d : Device) (h : InRange d) where
 
   received-in : (kind : ErrorKind) → InRange (receiveErrorMet d kind)
   unfolding receiveErrorMet busError raised countedReceiveError receiveError
-  received-in kind = (
-    h .0,
-    h .1,
-    h .2,
-    pick-under Grouped (eqb (d .acting) monitor) _ _ (λ stands. h .3) (λ counts. h .3),
-    errors-in kind,
-    h .5,
-    h .6,
-    h .7,
-    h .8,
-  )
+  received-in kind =
+      (h .0, h .1, h .2, pick-under Grouped (eqb (d .acting) monitor) _ _ (λ stands. h .3) (λ counts. h .3), errors-in kind, h .5, h .6, h .7, h .8)
 
   dominant-in : InRange (dominantMet d)
   unfolding dominantMet dominantBit
@@ -154,23 +145,18 @@ module _ (d : Device) (h : InRange d) where
   unfolding pinSet
   pin-in level = h
 
-  recessive-in : InRange (recessiveMet d)
+  recessive-groups : leb (recessiveMet d .counters .groups) 128 ≡ true
   unfolding recessiveMet elevenRecessive
-  recessive-in = (
-    h .0,
-    h .1,
-    h .2,
-    pick-under Grouped (d .counters .busoff) _ _
-        (λ off. pick-under Grouped (eqb (groupsAfter (d .counters)) 128 && bor d) _ _
-        (λ ends. refl)
-        (λ goes-on. le-leb (groupsAfter (d .counters)) 128 (omega arith)))
-        (λ on. h .3),
-    h .4,
-    h .5,
-    h .6,
-    h .7,
-    h .8,
-  )
+  recessive-groups =
+      pick-under Grouped (d .counters .busoff) _ _
+      (λ off. pick-under Grouped (eqb (groupsAfter (d .counters)) 128 && bor d) _ _
+      (λ ends. refl)
+      (λ goes-on. le-leb (groupsAfter (d .counters)) 128 (omega arith)))
+      (λ on. h .3)
+
+  recessive-in : InRange (recessiveMet d)
+  unfolding recessiveMet
+  recessive-in = (h .0, h .1, h .2, recessive-groups, h .4, h .5, h .6, h .7, h .8)
 
 -- in loopback the own message arrives first
 echoed-in : (d : Device) → InRange d → (what : Arrival) → InRange (echoed d what)

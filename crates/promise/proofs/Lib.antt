@@ -27,6 +27,7 @@ pub mod Rising
 pub mod FlagsRaised
 pub mod Raised
 pub mod Readings
+pub mod Cases
 pub mod Sides
 pub mod RuledOut
 pub mod Worked

@@ -1,12 +1,12 @@
 -- The ranges that make a device proper, part by part. Assumes nothing.
 use mathlib.Core.Path.{_≡_, refl}
-use mathlib.Core.Bool.{Bool, true, false, _&&_, _||_}
+use mathlib.Core.Bool.{Bool, true, _&&_, _||_}
 use Prim.Native.Nat.{ℕ, _<_, _≤_}
 use native.Mathlib.Omega.{arith}
 use borrow.Author.Tests.{lt-ltb, le-leb, ltb-true, leb-true}
 use lib.Dec.{eqb, leb, ltb}
 use Rattle.base.specs.Pick.{pick}
-use Rattle.base.proofs.Booleans.{and-left, and-right}
+use Rattle.base.proofs.Booleans.{and-left, and-right, pick-under}
 use Rattle.fifo.specs.declared.Fifo.{Fifo}
 use Rattle.fifo.specs.declared.Message.{Message}
 use Rattle.fifo.specs.Queue.{empty, put, take, inRange}
@@ -63,18 +63,16 @@ count-below : (q : Fifo) → inRange q ≡ true → q .count ≤ 8
 unfolding inRange
 count-below q e = leb-true (q .count) 8 (and-right (ltb (q .first) 8) (leb (q .count) 8) e)
 
-put-cases : (t : Bool) (q : Fifo) (m : Message) → ltb (q .count) 8 ≡ t → inRange q ≡ true → inRange (put q m) ≡ true
-unfolding put
-put-cases true q m e h = rw e (fits _ (first-below q h) (omega (arith, ltb-true (q .count) 8 e)))
-put-cases false q m e h = rw e h
-
 pub put-fits : (q : Fifo) (m : Message) → inRange q ≡ true → inRange (put q m) ≡ true
-put-fits q m h = put-cases (ltb (q .count) 8) q m refl h
-
-take-cases : (t : Bool) (q : Fifo) → eqb (q .count) 0 ≡ t → inRange q ≡ true → inRange (take q) ≡ true
-unfolding take
-take-cases true q e h = rw e h
-take-cases false q e h = rw e (fits _ (omega arith) (omega (arith, count-below q h)))
+unfolding put
+put-fits q m h =
+    pick-under (λ (r : Fifo). inRange r ≡ true) (ltb (q .count) 8) _ _
+    (λ room. fits _ (first-below q h) (omega (arith, ltb-true (q .count) 8 room)))
+    (λ full. h)
 
 pub take-fits : (q : Fifo) → inRange q ≡ true → inRange (take q) ≡ true
-take-fits q h = take-cases (eqb (q .count) 0) q refl h
+unfolding take
+take-fits q h =
+    pick-under (λ (r : Fifo). inRange r ≡ true) (eqb (q .count) 0) _ _
+    (λ none. h)
+    (λ some. fits _ (omega arith) (omega (arith, count-below q h)))

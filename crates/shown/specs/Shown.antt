@@ -24,10 +24,9 @@ unfoldable pub cut : Message → ℕ → ℕ → List ℕ
 cut m first from = padded (take first (m .bytes) ++ drop from (m .bytes))
 
 -- the registers of one byte
-unfoldable pub register : Device → ℕ → ℕ
-register d v =
-    among v
-    ((readCtrl0, d .regs .ctrl0) ∷
+abbrev pub registers : Device → List (ℕ × ℕ)
+registers d =
+    (readCtrl0, d .regs .ctrl0) ∷
     (readCtrl1, d .regs .ctrl1) ∷
     (readBtr0, d .regs .btr0) ∷
     (readBtr1, d .regs .btr1) ∷
@@ -41,15 +40,16 @@ register d v =
     (readRec, d .counters .rec) ∷
     (readTec, tecShown (d .counters)) ∷
     (readRecessiveCount, groupsShown (d .counters)) ∷
-    [])
-    0
+    []
+
+unfoldable pub register : Device → ℕ → ℕ
+register d v = among v (registers d) 0
 
 -- Of a message's bytes 1 to 16: 0x42 shows 2 to 16, 0x44 4 to 16, 0x46 all, 0x48 "bytes 1 and 4 to 16", 0x4A "1 to 3 and 9 to 16",
 -- 0x4C "1 and 9 to 16"; 0xEE shows 1 to 3 of a sent message, its tag and time tag.
-unfoldable pub shows : Device → ℕ → ℕ → List ℕ
-shows d v k =
-    among v
-    ((readTemporaryWithTime, cut (d .temp) 0 1) ∷
+abbrev pub views : Device → ℕ → List (ℕ × List ℕ)
+views d k =
+    (readTemporaryWithTime, cut (d .temp) 0 1) ∷
     (readTemporary, cut (d .temp) 0 3) ∷
     (readMessageWithTime, cut (next (d .rx)) 0 0) ∷
     (readMessage, cut (next (d .rx)) 1 3) ∷
@@ -59,5 +59,7 @@ shows d v k =
     (readMask, padded ((getD (d .masks) (k % 8) absent) .bytes)) ∷
     (readHistory, cut (next (d .history)) 3 16) ∷
     (readTime, padded (timeBytes (d .time))) ∷
-    [])
-    (padded (register d v ∷ []))
+    []
+
+unfoldable pub shows : Device → ℕ → ℕ → List ℕ
+shows d v k = among v (views d k) (padded (register d v ∷ []))

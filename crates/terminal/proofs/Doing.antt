@@ -44,13 +44,12 @@ use Rattle.terminal.specs.Terminal.{asked, reply, statusOf, switchedOn, 
 bit-one : (a b c d e f g h : ℕ) → g ≤ 1 → h ≤ 1 → (a * 128 + b * 64 + c * 32 + d * 16 + e * 8 + f * 4 + g * 2 + h) / 2 % 2 ≡ g
 bit-one a b c d e f g h p q = omega arith
 
-pub empty-shown : (d : Device) → isSet 1 (statf d) ≡ eqb (d .rx .count) 0
+pub empty-shown : (d : Device) → isSet 1 (statf d) ≡ isEmpty (d .rx)
 unfolding statf
 empty-shown d =
     flag-back (isEmpty (d .rx)) _
     (bit-one (flag (isEmpty (d .tx))) (flag (full (d .tx))) (flag (full (d .history)))
-    (flag (errw (d .counters))) (flag (errp (d .counters))) (flag (d .counters .busoff))
-    (flag (isEmpty (d .rx))) (flag (full (d .rx)))
+    (flag (errw (d .counters))) (flag (errp (d .counters))) (flag (d .counters .busoff)) (flag (isEmpty (d .rx))) (flag (full (d .rx)))
     (flag-le (isEmpty (d .rx))) (flag-le (full (d .rx))))
 
 module _ (d : Device) (in-range : proper d ≡ true) (acts : d .acting ≡ normal) where
@@ -149,17 +148,7 @@ int-is d listens wakes = rw (listens .enables, wakes) (by-count (eqb (d .rx .cou
 
 -- ---- the terminal is switched on: three transfers, computed
 
-pub on-listens : Listens switchedOn
+pub on-is : Listens switchedOn × Wakes switchedOn × (switchedOn .rx .count ≡ 0)
 unfolding transfer verdict rowJudged refusal lengthFits outsideSetUp setsUp findsFull readsMessage findsNone rows does registerChanged registersAfter
     fresh modeOf proper registersInRange sendingInRange actingInRange empty inRange writeCtrl0 changed stopped raised
-on-listens = record { acts = refl; unfiltered = refl; on = refl; enables = refl }
-
-pub on-wakes : Wakes switchedOn
-unfolding transfer verdict rowJudged refusal lengthFits outsideSetUp setsUp findsFull readsMessage findsNone rows does registerChanged registersAfter
-    fresh modeOf proper registersInRange sendingInRange actingInRange empty inRange writeCtrl0 changed stopped raised
-on-wakes = refl
-
-pub on-empty : switchedOn .rx .count ≡ 0
-unfolding transfer verdict rowJudged refusal lengthFits outsideSetUp setsUp findsFull readsMessage findsNone rows does registerChanged registersAfter
-    fresh modeOf proper registersInRange sendingInRange actingInRange empty inRange writeCtrl0 changed stopped raised
-on-empty = refl
+on-is = (record { acts = refl; unfiltered = refl; on = refl; enables = refl }, refl, refl)

@@ -14,7 +14,7 @@ use Rattle.refused.specs.Refused.{lengthFits}
 use Rattle.commands.specs.Table.{rows}
 use Rattle.terminal.specs.declared.Turn.{Turn}
 use Rattle.terminal.specs.Terminal.{switchedOn, brought, Reached, Listens, Serves, Wakes, Served}
-use Rattle.terminal.proofs.Doing.{brought-listens, brought-count, brought-wakes, int-is, on-listens, on-wakes, on-empty}
+use Rattle.terminal.proofs.Doing.{brought-listens, brought-count, brought-wakes, int-is, on-is}
 use Rattle.terminal.proofs.Serving.{in-range, bring-serves, all-printed}
 
 -- INT is low, so nothing waits
@@ -50,10 +50,10 @@ on scans page n enough fits = record {
     accepted = refl;
     taken = refl;
   };
-  listens = on-listens;
-  wakes = on-wakes;
-  few = omega (arith, on-empty);
-  printed = omega (arith, on-empty);
+  listens = on-is .0;
+  wakes = on-is .1;
+  few = omega (arith, on-is .2);
+  printed = omega (arith, on-is .2);
   size = refl;
   within = omega arith;
   enough = enough;

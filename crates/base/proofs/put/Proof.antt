@@ -17,20 +17,8 @@ Inv-loop reply buffer₀ i₀ buffer i = (i ≤ length reply) × (length buffer 
 abbrev μ-loop : tie.MeasureT-loop
 μ-loop reply buffer₀ i₀ buffer i = length reply - i
 
-loop-holds : tie.Need-loop-holds Inv-loop μ-loop
-loop-holds c = search needs
-
-shared-slice-read-buffer : tie.Need-shared-slice-read-buffer Inv-loop μ-loop
-shared-slice-read-buffer c = search needs
-
 slice-write-buffer : tie.Need-slice-write-buffer Inv-loop μ-loop
 slice-write-buffer c = search needs
-
-add-i : tie.Need-add-i Inv-loop μ-loop
-add-i c = search needs
-
-loop-less : tie.Need-loop-less Inv-loop μ-loop
-loop-less c = search needs
 
 loop-again : tie.Need-loop-again Inv-loop μ-loop
 loop-again c =
@@ -38,9 +26,6 @@ loop-again c =
     let v = c .before .before .loop .inv in
     let i = c .before .before .loop .i in
     (omega arith, simp length-set (v .1), rw (v .2) (copy-more (a .buffer .now) (a .reply .now) i 0 (omega arith) (omega arith)))
-
-same-length : tie.Need-same-length Inv-loop μ-loop
-same-length c = search needs
 
 returns : tie.Need-returns Inv-loop μ-loop
 returns c =
@@ -54,15 +39,5 @@ returns-2 c = search picks
 pub put-spec : {M : Type 1} → statement M
 put-spec =
     tie.close
-    (tie.spec
-    Inv-loop
-    μ-loop
-    loop-holds
-    shared-slice-read-buffer
-    slice-write-buffer
-    add-i
-    loop-less
-    loop-again
-    same-length
-    returns
-    returns-2)
+    (tie.spec Inv-loop μ-loop (search needs) (search needs) slice-write-buffer (search needs) (search needs) loop-again (search needs)
+    returns returns-2)

@@ -5,12 +5,6 @@ use borrow.Author.Needs.{needs}
 use Rattle.bus.proofs.answer.Statement.{statement}
 use Rattle.bus.proofs.answer.Tie as tie
 
-proper-requires : tie.Need-proper-requires
-proper-requires c κs = search needs
-
-impossible-requires : tie.Need-impossible-requires
-impossible-requires c κs = search needs
-
 returns : tie.Need-returns
 unfolding answer
 returns c =
@@ -19,9 +13,6 @@ returns c =
       ← c .before .impossible .ensures,
     )
     (search (picks, judges, c .if2 .taken, c .before .before .if1 .taken))
-
-said-requires : tie.Need-said-requires
-said-requires c κs = search needs
 
 returns-2 : tie.Need-returns-2
 unfolding answer
@@ -38,6 +29,4 @@ unfolding answer
 returns-3 c = rw (← c .before .proper .ensures) (search (picks, judges, c .if1 .left))
 
 pub answer-spec : {M : Type 1} → statement M
-answer-spec =
-    tie.close
-    (tie.spec proper-requires impossible-requires returns said-requires returns-2 returns-3)
+answer-spec = tie.close (tie.spec (search needs) (search needs) returns (search needs) returns-2 returns-3)

@@ -5,24 +5,6 @@ use borrow.Author.Needs.{needs}
 use Rattle.bus.proofs.event.Statement.{statement}
 use Rattle.bus.proofs.event.Tie as tie
 
-answer-requires : tie.Need-answer-requires
-answer-requires c κs = search needs
-
-enum-known-a : tie.Need-enum-known-a
-enum-known-a c = search needs
-
-enum-told : tie.Need-enum-told
-enum-told c = search needs
-
-after-requires : tie.Need-after-requires
-after-requires c κs = search needs
-
-enum-known-a-2 : tie.Need-enum-known-a-2
-enum-known-a-2 c = search needs
-
-arrival-requires : tie.Need-arrival-requires
-arrival-requires c κs = search needs
-
 returns : tie.Need-returns
 unfolding event
 returns c = rw (sym (c .before .before .before .answer .ensures) ∙ c .before .a .given .1)
@@ -38,13 +20,4 @@ returns-3 c = rw (sym (c .before .before .before .before .answer .ensures) ∙ c
 pub event-spec : {M : Type 1} → statement M
 event-spec =
     tie.close
-    (tie.spec
-    answer-requires
-    enum-known-a
-    enum-told
-    after-requires
-    enum-known-a-2
-    arrival-requires
-    returns
-    returns-2
-    returns-3)
+    (tie.spec (search needs) (search needs) (search needs) (search needs) (search needs) (search needs) returns returns-2 returns-3)

@@ -5,9 +5,6 @@ use borrow.Author.Needs.{needs}
 use Rattle.changed.proofs.counted_frame.Statement.{statement}
 use Rattle.changed.proofs.counted_frame.Tie as tie
 
-good-frame-requires : tie.Need-good-frame-requires
-good-frame-requires c κs = search needs
-
 returns : tie.Need-returns
 unfolding countedFrame
 returns c = search (picks, judges)
@@ -17,4 +14,4 @@ unfolding countedFrame
 returns-2 c = search (picks, judges)
 
 pub counted-frame-spec : {M : Type 1} → statement M
-counted-frame-spec = tie.close (tie.spec good-frame-requires returns returns-2)
+counted-frame-spec = tie.close (tie.spec (search needs) returns returns-2)

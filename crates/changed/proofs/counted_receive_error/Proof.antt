@@ -5,16 +5,6 @@ use borrow.Author.Needs.{needs}
 use Rattle.changed.proofs.counted_receive_error.Statement.{statement}
 use Rattle.changed.proofs.counted_receive_error.Tie as tie
 
-receive-error-requires : tie.Need-receive-error-requires
-receive-error-requires c κs = search needs
-
-returns : tie.Need-returns
-unfolding countedReceiveError
-returns c = search (picks, judges)
-
-returns-2 : tie.Need-returns-2
-unfolding countedReceiveError
-returns-2 c = search (picks, judges)
-
 pub counted-receive-error-spec : {M : Type 1} → statement M
-counted-receive-error-spec = tie.close (tie.spec receive-error-requires returns returns-2)
+unfolding countedReceiveError
+counted-receive-error-spec = tie.close (tie.spec (search needs) (λ c. search (picks, judges)) (λ c. search (picks, judges)))

@@ -5,21 +5,8 @@ use borrow.Author.Needs.{needs}
 use Rattle.changed.proofs.counted_transmit_error.Statement.{statement}
 use Rattle.changed.proofs.counted_transmit_error.Tie as tie
 
-transmit-error-requires : tie.Need-transmit-error-requires
-transmit-error-requires c κs = search needs
-
-returns : tie.Need-returns
-unfolding countedTransmitError
-returns c = search (picks, judges)
-
-returns-2 : tie.Need-returns-2
-unfolding countedTransmitError
-returns-2 c = search (picks, judges)
-
-returns-3 : tie.Need-returns-3
-unfolding countedTransmitError
-returns-3 c = search (picks, judges)
-
 pub counted-transmit-error-spec : {M : Type 1} → statement M
+unfolding countedTransmitError
 counted-transmit-error-spec =
-    tie.close (tie.spec transmit-error-requires returns returns-2 returns-3)
+    tie.close
+    (tie.spec (search needs) (λ c. search (picks, judges)) (λ c. search (picks, judges)) (λ c. search (picks, judges)))

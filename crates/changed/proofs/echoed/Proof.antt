@@ -4,18 +4,6 @@ use borrow.Author.Needs.{needs}
 use Rattle.changed.proofs.echoed.Statement.{statement}
 use Rattle.changed.proofs.echoed.Tie as tie
 
-header-in-requires : tie.Need-header-in-requires
-header-in-requires c κs = search needs
-
-data-in-requires : tie.Need-data-in-requires
-data-in-requires c κs = search needs
-
-arrived-requires : tie.Need-arrived-requires
-arrived-requires c κs = search needs
-
-sent-requires : tie.Need-sent-requires
-sent-requires c κs = search needs
-
 returns : tie.Need-returns
 unfolding echoed
 returns c =
@@ -27,5 +15,4 @@ returns c =
     )
 
 pub echoed-spec : {M : Type 1} → statement M
-echoed-spec =
-    tie.close (tie.spec header-in-requires data-in-requires arrived-requires sent-requires returns)
+echoed-spec = tie.close (tie.spec (search needs) (search needs) (search needs) (search needs) returns)

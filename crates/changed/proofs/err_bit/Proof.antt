@@ -5,52 +5,13 @@ use borrow.Author.Needs.{needs}
 use Rattle.changed.proofs.err_bit.Statement.{statement}
 use Rattle.changed.proofs.err_bit.Tie as tie
 
-enum-told : tie.Need-enum-told
-enum-told c = search needs
-
-enum-told-2 : tie.Need-enum-told-2
-enum-told-2 c = search needs
-
-enum-told-3 : tie.Need-enum-told-3
-enum-told-3 c = search needs
-
-enum-told-4 : tie.Need-enum-told-4
-enum-told-4 c = search needs
-
-enum-told-5 : tie.Need-enum-told-5
-enum-told-5 c = search needs
-
-returns : tie.Need-returns
-unfolding errBit
-returns c = search (picks, judges)
-
-returns-2 : tie.Need-returns-2
-unfolding errBit
-returns-2 c = search (picks, judges)
-
 returns-3 : tie.Need-returns-3
 unfolding errBit
 returns-3 c = search (picks, judges)
 
-returns-4 : tie.Need-returns-4
-unfolding errBit
-returns-4 c = search (picks, judges)
-
-returns-5 : tie.Need-returns-5
-unfolding errBit
-returns-5 c = search (picks, judges)
-
 pub err-bit-spec : {M : Type 1} → statement M
+unfolding errBit
 err-bit-spec =
     tie.close
-    (tie.spec
-    enum-told
-    enum-told-2
-    enum-told-3
-    enum-told-4
-    enum-told-5
-    returns
-    returns-2
-    returns-3
-    returns-4
-    returns-5)
+    (tie.spec (search needs) (search needs) (search needs) (search needs) (search needs) (λ c. search (picks, judges))
+    (λ c. search (picks, judges)) returns-3 (λ c. search (picks, judges)) (λ c. search (picks, judges)))

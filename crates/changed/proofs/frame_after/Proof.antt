@@ -5,15 +5,6 @@ use borrow.Author.Needs.{needs}
 use Rattle.changed.proofs.frame_after.Statement.{statement}
 use Rattle.changed.proofs.frame_after.Tie as tie
 
-reaches-temporary-requires : tie.Need-reaches-temporary-requires
-reaches-temporary-requires c κs = search needs
-
-heard-requires : tie.Need-heard-requires
-heard-requires c κs = search needs
-
-bus-activity-requires : tie.Need-bus-activity-requires
-bus-activity-requires c κs = search needs
-
 returns : tie.Need-returns
 unfolding frameAfter
 returns c = rw (← c .before .before .reaches-temporary .ensures, ← c .heard .ensures) (search (picks, judges, c .before .if1 .taken))
@@ -23,6 +14,4 @@ unfolding frameAfter
 returns-2 c = rw (← c .before .before .reaches-temporary .ensures, ← c .bus-activity .ensures) (search (picks, judges, c .before .if1 .left))
 
 pub frame-after-spec : {M : Type 1} → statement M
-frame-after-spec =
-    tie.close
-    (tie.spec reaches-temporary-requires heard-requires bus-activity-requires returns returns-2)
+frame-after-spec = tie.close (tie.spec (search needs) (search needs) (search needs) returns returns-2)

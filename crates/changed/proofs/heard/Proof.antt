@@ -5,15 +5,9 @@ use borrow.Author.Needs.{needs}
 use Rattle.changed.proofs.heard.Statement.{statement}
 use Rattle.changed.proofs.heard.Tie as tie
 
-counted-frame-requires : tie.Need-counted-frame-requires
-counted-frame-requires c κs = search needs
-
-arrived-requires : tie.Need-arrived-requires
-arrived-requires c κs = search needs
-
 returns : tie.Need-returns
 unfolding heard
 returns c = rw (← c .before .counted-frame .ensures, ← c .arrived .ensures) (search (picks, judges))
 
 pub heard-spec : {M : Type 1} → statement M
-heard-spec = tie.close (tie.spec counted-frame-requires arrived-requires returns)
+heard-spec = tie.close (tie.spec (search needs) (search needs) returns)

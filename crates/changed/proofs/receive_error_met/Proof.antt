@@ -5,19 +5,9 @@ use borrow.Author.Needs.{needs}
 use Rattle.changed.proofs.receive_error_met.Statement.{statement}
 use Rattle.changed.proofs.receive_error_met.Tie as tie
 
-counted-receive-error-requires : tie.Need-counted-receive-error-requires
-counted-receive-error-requires c κs = search needs
-
-err-bit-requires : tie.Need-err-bit-requires
-err-bit-requires c κs = search needs
-
-bus-error-requires : tie.Need-bus-error-requires
-bus-error-requires c κs = search needs
-
 returns : tie.Need-returns
 unfolding receiveErrorMet
 returns c = rw (← c .before .before .counted-receive-error .ensures, ← c .before .err-bit .ensures, ← c .bus-error .ensures) (search (picks, judges))
 
 pub receive-error-met-spec : {M : Type 1} → statement M
-receive-error-met-spec =
-    tie.close (tie.spec counted-receive-error-requires err-bit-requires bus-error-requires returns)
+receive-error-met-spec = tie.close (tie.spec (search needs) (search needs) (search needs) returns)

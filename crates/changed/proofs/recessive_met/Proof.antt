@@ -5,12 +5,9 @@ use borrow.Author.Needs.{needs}
 use Rattle.changed.proofs.recessive_met.Statement.{statement}
 use Rattle.changed.proofs.recessive_met.Tie as tie
 
-eleven-recessive-requires : tie.Need-eleven-recessive-requires
-eleven-recessive-requires c κs = search needs
-
 returns : tie.Need-returns
 unfolding recessiveMet
 returns c = rw (← c .eleven-recessive .ensures) (search (picks, judges))
 
 pub recessive-met-spec : {M : Type 1} → statement M
-recessive-met-spec = tie.close (tie.spec eleven-recessive-requires returns)
+recessive-met-spec = tie.close (tie.spec (search needs) returns)

@@ -5,12 +5,9 @@ use borrow.Author.Needs.{needs}
 use Rattle.changed.proofs.ticked.Statement.{statement}
 use Rattle.changed.proofs.ticked.Tie as tie
 
-later-requires : tie.Need-later-requires
-later-requires c κs = search needs
-
 returns : tie.Need-returns
 unfolding ticked
 returns c = rw (← c .later .ensures) (search (picks, judges))
 
 pub ticked-spec : {M : Type 1} → statement M
-ticked-spec = tie.close (tie.spec later-requires returns)
+ticked-spec = tie.close (tie.spec (search needs) returns)

@@ -5,18 +5,6 @@ use borrow.Author.Needs.{needs}
 use Rattle.changed.proofs.transmit_error_met.Statement.{statement}
 use Rattle.changed.proofs.transmit_error_met.Tie as tie
 
-counted-transmit-error-requires : tie.Need-counted-transmit-error-requires
-counted-transmit-error-requires c κs = search needs
-
-err-bit-requires : tie.Need-err-bit-requires
-err-bit-requires c κs = search needs
-
-bus-error-requires : tie.Need-bus-error-requires
-bus-error-requires c κs = search needs
-
-stopped-requires : tie.Need-stopped-requires
-stopped-requires c κs = search needs
-
 returns : tie.Need-returns
 unfolding transmitErrorMet
 returns c =
@@ -29,11 +17,4 @@ returns c =
     (search (picks, judges))
 
 pub transmit-error-met-spec : {M : Type 1} → statement M
-transmit-error-met-spec =
-    tie.close
-    (tie.spec
-    counted-transmit-error-requires
-    err-bit-requires
-    bus-error-requires
-    stopped-requires
-    returns)
+transmit-error-met-spec = tie.close (tie.spec (search needs) (search needs) (search needs) (search needs) returns)

@@ -4,17 +4,10 @@ use Rattle.base.specs.Pick.{picks, judges}
 use Rattle.chip.proofs.enabled.Statement.{statement}
 use Rattle.chip.proofs.enabled.Tie as tie
 
-returns : tie.Need-returns
-unfolding enabled
-returns c = search (picks, judges)
-
 returns-2 : tie.Need-returns-2
 unfolding enabled
 returns-2 c = search (picks, judges)
 
-returns-3 : tie.Need-returns-3
-unfolding enabled
-returns-3 c = search (picks, judges)
-
 pub enabled-spec : {M : Type 1} → statement M
-enabled-spec = tie.close (tie.spec returns returns-2 returns-3)
+unfolding enabled
+enabled-spec = tie.close (tie.spec (λ c. search (picks, judges)) returns-2 (λ c. search (picks, judges)))

@@ -4,12 +4,9 @@ use borrow.Author.Needs.{needs}
 use Rattle.chip.proofs.fresh.Statement.{statement}
 use Rattle.chip.proofs.fresh.Tie as tie
 
-empty-requires : tie.Need-empty-requires
-empty-requires c κs = search needs
-
 returns : tie.Need-returns
 unfolding fresh
 returns c = rw (← c .empty .ensures)
 
 pub fresh-spec : {M : Type 1} → statement M
-fresh-spec = tie.close (tie.spec empty-requires returns)
+fresh-spec = tie.close (tie.spec (search needs) returns)

@@ -5,24 +5,6 @@ use borrow.Author.Needs.{needs}
 use Rattle.chip.proofs.proper.Statement.{statement}
 use Rattle.chip.proofs.proper.Tie as tie
 
-in-range-requires : tie.Need-in-range-requires
-in-range-requires c κs = search needs
-
-in-range-requires-2 : tie.Need-in-range-requires-2
-in-range-requires-2 c κs = search needs
-
-in-range-requires-3 : tie.Need-in-range-requires-3
-in-range-requires-3 c κs = search needs
-
-registers-in-range-requires : tie.Need-registers-in-range-requires
-registers-in-range-requires c κs = search needs
-
-sending-in-range-requires : tie.Need-sending-in-range-requires
-sending-in-range-requires c κs = search needs
-
-acting-in-range-requires : tie.Need-acting-in-range-requires
-acting-in-range-requires c κs = search needs
-
 returns : tie.Need-returns
 unfolding proper
 returns c =
@@ -129,17 +111,5 @@ returns-7 c = rw (← c .before .in-range .ensures) (search (picks, judges, c .i
 pub proper-spec : {M : Type 1} → statement M
 proper-spec =
     tie.close
-    (tie.spec
-    in-range-requires
-    in-range-requires-2
-    in-range-requires-3
-    registers-in-range-requires
-    sending-in-range-requires
-    acting-in-range-requires
-    returns
-    returns-2
-    returns-3
-    returns-4
-    returns-5
-    returns-6
-    returns-7)
+    (tie.spec (search needs) (search needs) (search needs) (search needs) (search needs) (search needs) returns returns-2 returns-3
+    returns-4 returns-5 returns-6 returns-7)

@@ -6,15 +6,6 @@ use Rattle.commands.proofs.Rows.{rows-length, at-place, no-place}
 use Rattle.commands.proofs.find.Statement.{statement}
 use Rattle.commands.proofs.find.Tie as tie
 
-place-requires : tie.Need-place-requires
-place-requires c κs = search needs
-
-cast-i : tie.Need-cast-i
-cast-i c = search needs
-
-at-requires : tie.Need-at-requires
-at-requires c κs = search needs
-
 returns : tie.Need-returns
 returns c =
     let place = c .before .before .place .ensures in
@@ -24,4 +15,4 @@ returns-2 : tie.Need-returns-2
 returns-2 c = no-place rows (c .before .before .args .command) (omega (arith, rows-length, c .before .place .ensures, c .if1 .left))
 
 pub find-spec : {M : Type 1} → statement M
-find-spec = tie.close (tie.spec place-requires cast-i at-requires returns returns-2)
+find-spec = tie.close (tie.spec (search needs) (search needs) (search needs) returns returns-2)

@@ -16,21 +16,6 @@ use Rattle.commands.proofs.place.Tie as tie
 abbrev eight : ℕ → List ℕ
 eight h = tabulate (λ l. placeIn rows (h * 8 + l)) 0 8
 
-cast-line : tie.Need-cast-line
-cast-line c = search needs
-
-cast-column : tie.Need-cast-column
-cast-column c = search needs
-
-mul-result : tie.Need-mul-result
-mul-result c = search needs
-
-index-1-result : tie.Need-index-1-result
-index-1-result c = search needs
-
-index-2-result : tie.Need-index-2-result
-index-2-result c = search needs
-
 returns : tie.Need-returns
 unfolding rows
 returns c =
@@ -40,5 +25,4 @@ returns c =
     ∙ (table-at (λ l. placeIn rows (b / 8 * 8 + l)) 0 8 (b % 8) (omega arith) ∙ ap (placeIn rows) again)
 
 pub place-spec : {M : Type 1} → statement M
-place-spec =
-    tie.close (tie.spec cast-line cast-column mul-result index-1-result index-2-result returns)
+place-spec = tie.close (tie.spec (λ c. search needs) (λ c. search needs) (λ c. search needs) (λ c. search needs) (λ c. search needs) returns)

@@ -5,9 +5,6 @@ use Rattle.counters.specs.Rules.{completed}
 use Rattle.counters.proofs.completed.Statement.{statement}
 use Rattle.counters.proofs.completed.Tie as tie
 
-down-requires : tie.Need-down-requires
-down-requires c κs = search needs
-
 returns : tie.Need-returns
 unfolding completed
 returns c = search picks
@@ -17,4 +14,4 @@ unfolding completed
 returns-2 c = rw (c .down .ensures) (search picks)
 
 pub completed-spec : {M : Type 1} → statement M
-completed-spec = tie.close (tie.spec down-requires returns returns-2)
+completed-spec = tie.close (tie.spec (search needs) returns returns-2)

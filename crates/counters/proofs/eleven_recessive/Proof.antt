@@ -7,9 +7,6 @@ use Rattle.counters.specs.Rules.{elevenRecessive}
 use Rattle.counters.proofs.eleven_recessive.Statement.{statement}
 use Rattle.counters.proofs.eleven_recessive.Tie as tie
 
-up-to-requires : tie.Need-up-to-requires
-up-to-requires c κs = search needs
-
 returns : tie.Need-returns
 unfolding elevenRecessive
 returns c =
@@ -39,4 +36,4 @@ unfolding elevenRecessive
 returns-4 c = search picks
 
 pub eleven-recessive-spec : {M : Type 1} → statement M
-eleven-recessive-spec = tie.close (tie.spec up-to-requires returns returns-2 returns-3 returns-4)
+eleven-recessive-spec = tie.close (tie.spec (search needs) returns returns-2 returns-3 returns-4)

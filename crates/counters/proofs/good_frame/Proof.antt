@@ -6,9 +6,6 @@ use Rattle.counters.specs.Rules.{goodFrame}
 use Rattle.counters.proofs.good_frame.Statement.{statement}
 use Rattle.counters.proofs.good_frame.Tie as tie
 
-down-requires : tie.Need-down-requires
-down-requires c κs = search needs
-
 returns : tie.Need-returns
 unfolding goodFrame
 returns c = rw (lt-ltb (c .before .before .args .c .rec) 128 (omega arith), c .down .ensures)
@@ -18,4 +15,4 @@ unfolding goodFrame
 returns-2 c = rw (le-ltb (c .before .args .c .rec) 128 (omega arith))
 
 pub good-frame-spec : {M : Type 1} → statement M
-good-frame-spec = tie.close (tie.spec down-requires returns returns-2)
+good-frame-spec = tie.close (tie.spec (search needs) returns returns-2)

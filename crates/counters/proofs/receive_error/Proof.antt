@@ -4,12 +4,9 @@ use Rattle.counters.specs.Rules.{receiveError}
 use Rattle.counters.proofs.receive_error.Statement.{statement}
 use Rattle.counters.proofs.receive_error.Tie as tie
 
-up-to-requires : tie.Need-up-to-requires
-up-to-requires c κs = search needs
-
 returns : tie.Need-returns
 unfolding receiveError
 returns c = rw (c .up-to .ensures)
 
 pub receive-error-spec : {M : Type 1} → statement M
-receive-error-spec = tie.close (tie.spec up-to-requires returns)
+receive-error-spec = tie.close (tie.spec (search needs) returns)

@@ -11,17 +11,13 @@ use Rattle.counters.proofs.transmit_error.Tie as tie
 add-t8 : tie.Need-add-t8
 add-t8 c = search needs
 
-returns : tie.Need-returns
-unfolding transmitError
-returns c = search picks
-
 returns-2 : tie.Need-returns-2
 unfolding transmitError
 returns-2 c = rw (c .before .if1 .left, lt-ltb 255 (c .before .before .args .c .tec + 8) (omega arith))
 
-returns-3 : tie.Need-returns-3
-unfolding transmitError
-returns-3 c = rw (c .before .if1 .left, le-ltb 255 (c .before .before .args .c .tec + 8) (omega arith))
-
 pub transmit-error-spec : {M : Type 1} → statement M
-transmit-error-spec = tie.close (tie.spec add-t8 returns returns-2 returns-3)
+unfolding transmitError
+transmit-error-spec =
+    tie.close
+    (tie.spec add-t8 (λ c. search picks) returns-2
+    (λ c. rw (c .before .if1 .left, le-ltb 255 (c .before .before .args .c .tec + 8) (omega arith))))

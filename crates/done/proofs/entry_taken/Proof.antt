@@ -5,12 +5,9 @@ use borrow.Author.Needs.{needs}
 use Rattle.done.proofs.entry_taken.Statement.{statement}
 use Rattle.done.proofs.entry_taken.Tie as tie
 
-take-requires : tie.Need-take-requires
-take-requires c κs = search needs
-
 returns : tie.Need-returns
 unfolding entryTaken
 returns c = rw (← c .take .ensures) (search (picks, judges))
 
 pub entry-taken-spec : {M : Type 1} → statement M
-entry-taken-spec = tie.close (tie.spec take-requires returns)
+entry-taken-spec = tie.close (tie.spec (search needs) returns)

@@ -5,18 +5,9 @@ use borrow.Author.Needs.{needs}
 use Rattle.done.proofs.filter_written.Statement.{statement}
 use Rattle.done.proofs.filter_written.Tie as tie
 
-cast-place : tie.Need-cast-place
-cast-place c = search needs
-
-mul-filters : tie.Need-mul-filters
-mul-filters c = search needs
-
-array-set-from-filters : tie.Need-array-set-from-filters
-array-set-from-filters c = search needs
-
 returns : tie.Need-returns
 unfolding filterWritten
 returns c = search (picks, judges)
 
 pub filter-written-spec : {M : Type 1} → statement M
-filter-written-spec = tie.close (tie.spec cast-place mul-filters array-set-from-filters returns)
+filter-written-spec = tie.close (tie.spec (search needs) (search needs) (search needs) returns)

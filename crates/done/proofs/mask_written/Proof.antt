@@ -5,18 +5,9 @@ use borrow.Author.Needs.{needs}
 use Rattle.done.proofs.mask_written.Statement.{statement}
 use Rattle.done.proofs.mask_written.Tie as tie
 
-cast-place : tie.Need-cast-place
-cast-place c = search needs
-
-mul-masks : tie.Need-mul-masks
-mul-masks c = search needs
-
-array-set-from-masks : tie.Need-array-set-from-masks
-array-set-from-masks c = search needs
-
 returns : tie.Need-returns
 unfolding maskWritten
 returns c = search (picks, judges)
 
 pub mask-written-spec : {M : Type 1} → statement M
-mask-written-spec = tie.close (tie.spec cast-place mul-masks array-set-from-masks returns)
+mask-written-spec = tie.close (tie.spec (search needs) (search needs) (search needs) returns)

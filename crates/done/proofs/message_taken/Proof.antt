@@ -4,12 +4,9 @@ use borrow.Author.Needs.{needs}
 use Rattle.done.proofs.message_taken.Statement.{statement}
 use Rattle.done.proofs.message_taken.Tie as tie
 
-take-requires : tie.Need-take-requires
-take-requires c κs = search needs
-
 returns : tie.Need-returns
 unfolding messageTaken
 returns c = rw (c .take .ensures)
 
 pub message-taken-spec : {M : Type 1} → statement M
-message-taken-spec = tie.close (tie.spec take-requires returns)
+message-taken-spec = tie.close (tie.spec (search needs) returns)

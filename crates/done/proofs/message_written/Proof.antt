@@ -10,24 +10,6 @@ returns : tie.Need-returns
 unfolding messageWritten
 returns c = search (picks, judges)
 
-sub-message-of : tie.Need-sub-message-of
-sub-message-of c = search needs
-
-part-message-of-start : tie.Need-part-message-of-start
-part-message-of-start c = search needs
-
-part-message-of-end : tie.Need-part-message-of-end
-part-message-of-end c = search needs
-
-message-of-requires : tie.Need-message-of-requires
-message-of-requires c κs = search needs
-
-stored-requires : tie.Need-stored-requires
-stored-requires c κs = search needs
-
-put-requires : tie.Need-put-requires
-put-requires c κs = search needs
-
 returns-2 : tie.Need-returns-2
 unfolding messageWritten
 returns-2 c =
@@ -42,12 +24,4 @@ returns-2 c =
 pub message-written-spec : {M : Type 1} → statement M
 message-written-spec =
     tie.close
-    (tie.spec
-    returns
-    sub-message-of
-    part-message-of-start
-    part-message-of-end
-    message-of-requires
-    stored-requires
-    put-requires
-    returns-2)
+    (tie.spec returns (search needs) (search needs) (search needs) (search needs) (search needs) (search needs) returns-2)

@@ -5,12 +5,9 @@ use borrow.Author.Needs.{needs}
 use Rattle.done.proofs.receive_cleared.Statement.{statement}
 use Rattle.done.proofs.receive_cleared.Tie as tie
 
-empty-requires : tie.Need-empty-requires
-empty-requires c κs = search needs
-
 returns : tie.Need-returns
 unfolding receiveCleared
 returns c = rw (← c .empty .ensures) (search (picks, judges))
 
 pub receive-cleared-spec : {M : Type 1} → statement M
-receive-cleared-spec = tie.close (tie.spec empty-requires returns)
+receive-cleared-spec = tie.close (tie.spec (search needs) returns)

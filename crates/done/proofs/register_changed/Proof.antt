@@ -5,12 +5,9 @@ use borrow.Author.Needs.{needs}
 use Rattle.done.proofs.register_changed.Statement.{statement}
 use Rattle.done.proofs.register_changed.Tie as tie
 
-registers-after-requires : tie.Need-registers-after-requires
-registers-after-requires c κs = search needs
-
 returns : tie.Need-returns
 unfolding registerChanged
 returns c = rw (← c .registers-after .ensures) (search (picks, judges))
 
 pub register-changed-spec : {M : Type 1} → statement M
-register-changed-spec = tie.close (tie.spec registers-after-requires returns)
+register-changed-spec = tie.close (tie.spec (search needs) returns)

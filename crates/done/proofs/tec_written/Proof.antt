@@ -5,12 +5,9 @@ use borrow.Author.Needs.{needs}
 use Rattle.done.proofs.tec_written.Statement.{statement}
 use Rattle.done.proofs.tec_written.Tie as tie
 
-test-tec-requires : tie.Need-test-tec-requires
-test-tec-requires c κs = search needs
-
 returns : tie.Need-returns
 unfolding tecWritten
 returns c = rw (← c .test-tec .ensures) (search (picks, judges))
 
 pub tec-written-spec : {M : Type 1} → statement M
-tec-written-spec = tie.close (tie.spec test-tec-requires returns)
+tec-written-spec = tie.close (tie.spec (search needs) returns)

@@ -6,9 +6,6 @@ use borrow.Author.Needs.{needs}
 use Rattle.drawn.proofs.err.Statement.{statement}
 use Rattle.drawn.proofs.err.Tie as tie
 
-level-bits-requires : tie.Need-level-bits-requires
-level-bits-requires c κs = search needs
-
 add-result : tie.Need-add-result
 add-result c = omega (arith, c .before .level-bits .ensures, level-bits-le (c .before .before .before .args .d .counters))
 
@@ -17,4 +14,4 @@ unfolding err
 returns c = rw (← c .before .level-bits .ensures)
 
 pub err-spec : {M : Type 1} → statement M
-err-spec = tie.close (tie.spec level-bits-requires add-result returns)
+err-spec = tie.close (tie.spec (search needs) add-result returns)

@@ -5,15 +5,6 @@ use borrow.Author.Needs.{needs}
 use Rattle.drawn.proofs.gp.Statement.{statement}
 use Rattle.drawn.proofs.gp.Tie as tie
 
-is-set-requires : tie.Need-is-set-requires
-is-set-requires c κs = search needs
-
-statf-requires : tie.Need-statf-requires
-statf-requires c κs = search needs
-
-is-set-requires-2 : tie.Need-is-set-requires-2
-is-set-requires-2 c κs = search needs
-
 returns : tie.Need-returns
 unfolding gp
 returns c = search (picks, judges)
@@ -23,4 +14,4 @@ unfolding gp
 returns-2 c = rw (← c .before .statf .ensures, ← c .is-set2 .ensures) (search (picks, judges, c .before .before .if1 .left))
 
 pub gp-spec : {M : Type 1} → statement M
-gp-spec = tie.close (tie.spec is-set-requires statf-requires is-set-requires-2 returns returns-2)
+gp-spec = tie.close (tie.spec (search needs) (search needs) (search needs) returns returns-2)

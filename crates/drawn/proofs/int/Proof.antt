@@ -5,12 +5,9 @@ use borrow.Author.Needs.{needs}
 use Rattle.drawn.proofs.int.Statement.{statement}
 use Rattle.drawn.proofs.int.Tie as tie
 
-share-requires : tie.Need-share-requires
-share-requires c κs = search needs
-
 returns : tie.Need-returns
 unfolding int
 returns c = search (picks, judges)
 
 pub int-spec : {M : Type 1} → statement M
-int-spec = tie.close (tie.spec share-requires returns)
+int-spec = tie.close (tie.spec (search needs) returns)

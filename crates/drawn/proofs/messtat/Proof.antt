@@ -6,18 +6,6 @@ use borrow.Author.Needs.{needs}
 use Rattle.drawn.proofs.messtat.Statement.{statement}
 use Rattle.drawn.proofs.messtat.Tie as tie
 
-mul-result : tie.Need-mul-result
-mul-result c = search needs
-
-mul-result-2 : tie.Need-mul-result-2
-mul-result-2 c = search needs
-
-add-result : tie.Need-add-result
-add-result c = search needs
-
-tstat-requires : tie.Need-tstat-requires
-tstat-requires c κs = search needs
-
 add-result-2 : tie.Need-add-result-2
 add-result-2 c = omega (arith, c .tstat .ensures, tstat-le (c .before .before .before .args .d))
 
@@ -26,5 +14,4 @@ unfolding messtat
 returns c = rw (c .tstat .ensures)
 
 pub messtat-spec : {M : Type 1} → statement M
-messtat-spec =
-    tie.close (tie.spec mul-result mul-result-2 add-result tstat-requires add-result-2 returns)
+messtat-spec = tie.close (tie.spec (search needs) (search needs) (search needs) (search needs) add-result-2 returns)

@@ -4,9 +4,6 @@ use Rattle.base.specs.Pick.{picks}
 use Rattle.filter.proofs.counted.Statement.{statement}
 use Rattle.filter.proofs.counted.Tie as tie
 
-mul-result : tie.Need-mul-result
-mul-result c = search needs
-
 returns : tie.Need-returns
 returns c = search picks
 
@@ -14,4 +11,4 @@ returns-2 : tie.Need-returns-2
 returns-2 c = search picks
 
 pub counted-spec : {M : Type 1} → statement M
-counted-spec = tie.close (tie.spec mul-result returns returns-2)
+counted-spec = tie.close (tie.spec (search needs) returns returns-2)

@@ -4,15 +4,6 @@ use Rattle.filter.specs.Lowest.{filhit}
 use Rattle.filter.proofs.filhit.Statement.{statement}
 use Rattle.filter.proofs.filhit.Tie as tie
 
-enum-known-hit : tie.Need-enum-known-hit
-enum-known-hit c = search needs
-
-add-result : tie.Need-add-result
-add-result c = search needs
-
-enum-told : tie.Need-enum-told
-enum-told c = search needs
-
 returns : tie.Need-returns
 unfolding filhit
 returns c = rw (c .before .hit .given .1)
@@ -22,4 +13,4 @@ unfolding filhit
 returns-2 c = rw (c .enum-told .given .1)
 
 pub filhit-spec : {M : Type 1} → statement M
-filhit-spec = tie.close (tie.spec enum-known-hit add-result enum-told returns returns-2)
+filhit-spec = tie.close (tie.spec (search needs) (search needs) (search needs) returns returns-2)

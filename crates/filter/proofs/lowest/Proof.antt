@@ -18,35 +18,11 @@ loop-holds : tie.Need-loop-holds Inv-loop μ-loop
 unfolding lowest
 loop-holds c = (search needs, refl)
 
-cast-at : tie.Need-cast-at Inv-loop μ-loop
-cast-at c = search needs
-
-mul-matches : tie.Need-mul-matches Inv-loop μ-loop
-mul-matches c = search needs
-
-array-copy-out-matches : tie.Need-array-copy-out-matches Inv-loop μ-loop
-array-copy-out-matches c = search needs
-
-mul-matches-2 : tie.Need-mul-matches-2 Inv-loop μ-loop
-mul-matches-2 c = search needs
-
-array-copy-out-matches-2 : tie.Need-array-copy-out-matches-2 Inv-loop μ-loop
-array-copy-out-matches-2 c = search needs
-
-matches-requires : tie.Need-matches-requires Inv-loop μ-loop
-matches-requires c κs = search needs
-
 returns : tie.Need-returns Inv-loop μ-loop
 returns c =
     let a = c .before .before .before .before .before .before .args in
     let l = c .before .before .before .before .before .loop in
     sym (l .inv .1 ∙ lowest-here (a .t1) (a .t2) (a .vector) (l .k) (omega arith) (sym (c .before .matches .ensures) ∙ c .if1 .taken))
-
-add-k : tie.Need-add-k Inv-loop μ-loop
-add-k c = search needs
-
-loop-less : tie.Need-loop-less Inv-loop μ-loop
-loop-less c = search needs
 
 loop-again : tie.Need-loop-again Inv-loop μ-loop
 loop-again c =
@@ -62,18 +38,5 @@ returns-2 c =
 pub lowest-spec : {M : Type 1} → statement M
 lowest-spec =
     tie.close
-    (tie.spec
-    Inv-loop
-    μ-loop
-    loop-holds
-    cast-at
-    mul-matches
-    array-copy-out-matches
-    mul-matches-2
-    array-copy-out-matches-2
-    matches-requires
-    returns
-    add-k
-    loop-less
-    loop-again
-    returns-2)
+    (tie.spec Inv-loop μ-loop loop-holds (search needs) (search needs) (search needs) (search needs) (search needs) (search needs) returns
+    (search needs) (search needs) loop-again returns-2)

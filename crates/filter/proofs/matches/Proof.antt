@@ -20,27 +20,6 @@ abbrev μ-loop : tie.MeasureT-loop
 loop-holds : tie.Need-loop-holds Inv-loop μ-loop
 loop-holds c = (search needs, refl)
 
-array-read-byte-agrees : tie.Need-array-read-byte-agrees Inv-loop μ-loop
-array-read-byte-agrees c = search needs
-
-array-read-byte-agrees-2 : tie.Need-array-read-byte-agrees-2 Inv-loop μ-loop
-array-read-byte-agrees-2 c = search needs
-
-array-read-counted : tie.Need-array-read-counted Inv-loop μ-loop
-array-read-counted c = search needs
-
-counted-requires : tie.Need-counted-requires Inv-loop μ-loop
-counted-requires c κs = search needs
-
-byte-agrees-requires : tie.Need-byte-agrees-requires Inv-loop μ-loop
-byte-agrees-requires c κs = search needs
-
-add-k : tie.Need-add-k Inv-loop μ-loop
-add-k c = search needs
-
-loop-less : tie.Need-loop-less Inv-loop μ-loop
-loop-less c = search needs
-
 module _ (c : tie.After-byte-agrees Inv-loop μ-loop) where
   abbrev vector : List ℕ
   vector = c .before .before .before .before .args .t1
@@ -79,17 +58,5 @@ returns-2 c =
 pub matches-spec : {M : Type 1} → statement M
 matches-spec =
     tie.close
-    (tie.spec
-    Inv-loop
-    μ-loop
-    loop-holds
-    array-read-byte-agrees
-    array-read-byte-agrees-2
-    array-read-counted
-    counted-requires
-    byte-agrees-requires
-    add-k
-    loop-less
-    loop-again
-    returns
-    returns-2)
+    (tie.spec Inv-loop μ-loop loop-holds (search needs) (search needs) (search needs) (search needs) (search needs) (search needs)
+    (search needs) loop-again returns returns-2)

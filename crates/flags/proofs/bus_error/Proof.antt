@@ -5,12 +5,9 @@ use borrow.Author.Needs.{needs}
 use Rattle.flags.proofs.bus_error.Statement.{statement}
 use Rattle.flags.proofs.bus_error.Tie as tie
 
-raised-requires : tie.Need-raised-requires
-raised-requires c κs = search needs
-
 returns : tie.Need-returns
 unfolding busError
 returns c = search (picks, judges)
 
 pub bus-error-spec : {M : Type 1} → statement M
-bus-error-spec = tie.close (tie.spec raised-requires returns)
+bus-error-spec = tie.close (tie.spec (search needs) returns)

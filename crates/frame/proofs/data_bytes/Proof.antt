@@ -5,9 +5,6 @@ use Rattle.frame.specs.Length.{dataBytes}
 use Rattle.frame.proofs.data_bytes.Statement.{statement}
 use Rattle.frame.proofs.data_bytes.Tie as tie
 
-data-length-requires : tie.Need-data-length-requires
-data-length-requires c κs = search needs
-
 returns : tie.Need-returns
 unfolding dataBytes
 returns c = search picks
@@ -17,4 +14,4 @@ unfolding dataBytes
 returns-2 c = search picks
 
 pub data-bytes-spec : {M : Type 1} → statement M
-data-bytes-spec = tie.close (tie.spec data-length-requires returns returns-2)
+data-bytes-spec = tie.close (tie.spec (search needs) returns returns-2)

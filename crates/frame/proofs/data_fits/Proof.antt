@@ -4,12 +4,9 @@ use Rattle.frame.specs.Length.{dataFits}
 use Rattle.frame.proofs.data_fits.Statement.{statement}
 use Rattle.frame.proofs.data_fits.Tie as tie
 
-data-bytes-requires : tie.Need-data-bytes-requires
-data-bytes-requires c κs = search needs
-
 returns : tie.Need-returns
 unfolding dataFits
 returns c = rw (c .data-bytes .ensures)
 
 pub data-fits-spec : {M : Type 1} → statement M
-data-fits-spec = tie.close (tie.spec data-bytes-requires returns)
+data-fits-spec = tie.close (tie.spec (search needs) returns)

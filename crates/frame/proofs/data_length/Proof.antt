@@ -7,12 +7,6 @@ use Rattle.frame.specs.Length.{dataLength}
 use Rattle.frame.proofs.data_length.Statement.{statement}
 use Rattle.frame.proofs.data_length.Tie as tie
 
-mul-result : tie.Need-mul-result
-mul-result c = search needs
-
-array-read-result : tie.Need-array-read-result
-array-read-result c = search needs
-
 returns : tie.Need-returns
 unfolding dataLength
 returns c = table-at dataLength 0 16 (c .before .args .code) (c .if1 .taken)
@@ -22,4 +16,4 @@ unfolding dataLength
 returns-2 c = rw (lt-leb (c .before .args .code) 8 (omega arith))
 
 pub data-length-spec : {M : Type 1} → statement M
-data-length-spec = tie.close (tie.spec mul-result array-read-result returns returns-2)
+data-length-spec = tie.close (tie.spec (search needs) (search needs) returns returns-2)

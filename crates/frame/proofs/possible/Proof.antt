@@ -6,21 +6,16 @@ use Rattle.frame.specs.Length.{possible}
 use Rattle.frame.proofs.possible.Statement.{statement}
 use Rattle.frame.proofs.possible.Tie as tie
 
-returns : tie.Need-returns
-unfolding possible
-returns c = rw (c .before .before .if1 .taken, lt-ltb (c .before .before .before .args .h .id) (2 ^ 29) (omega arith))
-
-returns-2 : tie.Need-returns-2
-unfolding possible
-returns-2 c = rw (c .before .if1 .taken, le-ltb (c .before .before .args .h .id) (2 ^ 29) (omega arith))
-
 returns-3 : tie.Need-returns-3
 unfolding possible
 returns-3 c = rw (c .before .before .if1 .left, lt-ltb (c .before .before .before .args .h .id) (2 ^ 11) (omega arith))
 
-returns-4 : tie.Need-returns-4
-unfolding possible
-returns-4 c = rw (c .before .if1 .left, le-ltb (c .before .before .args .h .id) (2 ^ 11) (omega arith))
-
 pub possible-spec : {M : Type 1} → statement M
-possible-spec = tie.close (tie.spec returns returns-2 returns-3 returns-4)
+unfolding possible
+possible-spec =
+    tie.close
+    (tie.spec
+    (λ c. rw (c .before .before .if1 .taken, lt-ltb (c .before .before .before .args .h .id) (2 ^ 29) (omega arith)))
+    (λ c. rw (c .before .if1 .taken, le-ltb (c .before .before .args .h .id) (2 ^ 29) (omega arith)))
+    returns-3
+    (λ c. rw (c .before .if1 .left, le-ltb (c .before .before .args .h .id) (2 ^ 11) (omega arith))))

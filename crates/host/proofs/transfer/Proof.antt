@@ -27,41 +27,17 @@ short c = accepted-out _ _ _ _ (told c)
 long : (c : tie.After-shows) → length (c .shows .result) ≡ 16
 long c = search needs
 
-judge-requires : tie.Need-judge-requires
-judge-requires c κs = search needs
-
-enum-known-verdict : tie.Need-enum-known-verdict
-enum-known-verdict c = search needs
-
-enum-known-verdict-2 : tie.Need-enum-known-verdict-2
-enum-known-verdict-2 c = search needs
-
-shows-requires : tie.Need-shows-requires
-shows-requires c κs = search needs
-
-cast-k : tie.Need-cast-k
-cast-k c = search needs
-
-does-requires : tie.Need-does-requires
-does-requires c κs = search needs
-
 array-share-prefix-sixteen : tie.Need-array-share-prefix-sixteen
 array-share-prefix-sixteen c = omega (arith, long (c .before .before), short (c .before .before .before .before))
 
 slice-aggregate-put : tie.Need-slice-aggregate-put
 slice-aggregate-put c = simp length-take (omega (arith, long (c .before .before .before), short (c .before .before .before .before .before)))
 
-put-requires : tie.Need-put-requires
-put-requires c κs = search needs
-
 returns : tie.Need-returns
 unfolding transfer replyAfter
 returns c =
     let e = sym (c .before .before .before .judge .ensures) ∙ c .before .verdict .given .1 in
     (rw e, rw e)
-
-same-length : tie.Need-same-length
-same-length c = search needs
 
 returns-2 : tie.Need-returns-2
 unfolding transfer replyAfter
@@ -72,16 +48,5 @@ returns-2 c =
 pub transfer-spec : {M : Type 1} → statement M
 transfer-spec =
     tie.close
-    (tie.spec
-    judge-requires
-    enum-known-verdict
-    enum-known-verdict-2
-    shows-requires
-    cast-k
-    does-requires
-    array-share-prefix-sixteen
-    slice-aggregate-put
-    put-requires
-    returns
-    same-length
-    returns-2)
+    (tie.spec (search needs) (search needs) (search needs) (search needs) (search needs) (search needs) array-share-prefix-sixteen
+    slice-aggregate-put (search needs) returns (search needs) returns-2)

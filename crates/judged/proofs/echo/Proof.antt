@@ -5,15 +5,6 @@ use borrow.Author.Needs.{needs}
 use Rattle.judged.proofs.echo.Statement.{statement}
 use Rattle.judged.proofs.echo.Tie as tie
 
-header-in-requires : tie.Need-header-in-requires
-header-in-requires c κs = search needs
-
-data-in-requires : tie.Need-data-in-requires
-data-in-requires c κs = search needs
-
-filters-and-room-requires : tie.Need-filters-and-room-requires
-filters-and-room-requires c κs = search needs
-
 returns : tie.Need-returns
 unfolding echo
 returns c =
@@ -29,5 +20,4 @@ unfolding echo
 returns-2 c = search (picks, judges)
 
 pub echo-spec : {M : Type 1} → statement M
-echo-spec =
-    tie.close (tie.spec header-in-requires data-in-requires filters-and-room-requires returns returns-2)
+echo-spec = tie.close (tie.spec (search needs) (search needs) (search needs) returns returns-2)

@@ -5,12 +5,6 @@ use borrow.Author.Needs.{needs}
 use Rattle.judged.proofs.impossible_frame.Statement.{statement}
 use Rattle.judged.proofs.impossible_frame.Tie as tie
 
-possible-requires : tie.Need-possible-requires
-possible-requires c κs = search needs
-
-data-fits-requires : tie.Need-data-fits-requires
-data-fits-requires c κs = search needs
-
 returns : tie.Need-returns
 unfolding impossibleFrame
 returns c = rw (← c .before .before .possible .ensures, ← c .data-fits .ensures) (search (picks, judges, c .before .if1 .taken))
@@ -20,4 +14,4 @@ unfolding impossibleFrame
 returns-2 c = rw (← c .before .possible .ensures) (search (picks, judges, c .if1 .left))
 
 pub impossible-frame-spec : {M : Type 1} → statement M
-impossible-frame-spec = tie.close (tie.spec possible-requires data-fits-requires returns returns-2)
+impossible-frame-spec = tie.close (tie.spec (search needs) (search needs) returns returns-2)

@@ -1,67 +1,32 @@
 -- `judged::reason` meets its contract. Assumes nothing.
+use mathlib.Core.Path.{_≡_}
+use Rattle.receive.specs.declared.Arrival.the-variants.{A1, A2, A3}
 use Rattle.judged.specs.Judged.{reason}
-use Rattle.base.specs.Pick.{picks, judges}
+use Rattle.base.specs.Pick.{pick, picks, judges}
 use borrow.Author.Needs.{needs}
 use Rattle.judged.proofs.reason.Statement.{statement}
 use Rattle.judged.proofs.reason.Tie as tie
 
-takes-no-frames-requires : tie.Need-takes-no-frames-requires
-takes-no-frames-requires c κs = search needs
-
-unacknowledged-requires : tie.Need-unacknowledged-requires
-unacknowledged-requires c κs = search needs
-
-filters-and-room-requires : tie.Need-filters-and-room-requires
-filters-and-room-requires c κs = search needs
+-- the rule, with the answers that the code has
+told : (c : tie.After-filters-and-room)
+    → let a = c .before .before .before .args in
+    reason (a .d) (a .h) (a .acknowledged) (a .payload)
+    ≡ pick (c .before .before .takes-no-frames .result) A1
+    (pick (a .d .counters .busoff) A2 (pick (c .before .unacknowledged .result) A3 (c .filters-and-room .result)))
+unfolding reason
+told c = rw (← c .before .before .takes-no-frames .ensures, ← c .before .unacknowledged .ensures, ← c .filters-and-room .ensures)
 
 returns : tie.Need-returns
-unfolding reason
-returns c =
-    rw (
-      ← c .before .before .before .takes-no-frames .ensures,
-      ← c .before .before .unacknowledged .ensures,
-      ← c .before .filters-and-room .ensures,
-    )
-    (search (picks, judges, c .if1 .taken))
+returns c = rw (told (c .before)) (search (picks, judges, c .if1 .taken))
 
 returns-2 : tie.Need-returns-2
-unfolding reason
-returns-2 c =
-    rw (
-      ← c .before .before .before .before .takes-no-frames .ensures,
-      ← c .before .before .before .unacknowledged .ensures,
-      ← c .before .before .filters-and-room .ensures,
-    )
-    (search (picks, judges, c .if2 .taken, c .before .if1 .left))
+returns-2 c = rw (told (c .before .before)) (search (picks, judges, c .if2 .taken, c .before .if1 .left))
 
 returns-3 : tie.Need-returns-3
-unfolding reason
-returns-3 c =
-    rw (
-      ← c .before .before .before .before .before .takes-no-frames .ensures,
-      ← c .before .before .before .before .unacknowledged .ensures,
-      ← c .before .before .before .filters-and-room .ensures,
-    )
-    (search (picks, judges, c .if3 .taken, c .before .if2 .left, c .before .before .if1 .left))
+returns-3 c = rw (told (c .before .before .before)) (search (picks, judges, c .if3 .taken, c .before .if2 .left, c .before .before .if1 .left))
 
 returns-4 : tie.Need-returns-4
-unfolding reason
-returns-4 c =
-    rw (
-      ← c .before .before .before .before .before .takes-no-frames .ensures,
-      ← c .before .before .before .before .unacknowledged .ensures,
-      ← c .before .before .before .filters-and-room .ensures,
-    )
-    (search (picks, judges, c .if3 .left, c .before .if2 .left, c .before .before .if1 .left))
+returns-4 c = rw (told (c .before .before .before)) (search (picks, judges, c .if3 .left, c .before .if2 .left, c .before .before .if1 .left))
 
 pub reason-spec : {M : Type 1} → statement M
-reason-spec =
-    tie.close
-    (tie.spec
-    takes-no-frames-requires
-    unacknowledged-requires
-    filters-and-room-requires
-    returns
-    returns-2
-    returns-3
-    returns-4)
+reason-spec = tie.close (tie.spec (search needs) (search needs) (search needs) returns returns-2 returns-3 returns-4)

@@ -14,16 +14,10 @@ use native.Mathlib.Omega.{arith}
 use Rattle.line.proofs.read_line.Statement.{statement}
 use Rattle.line.proofs.read_line.Tie as tie
 
-comment-requires : tie.Need-comment-requires
-comment-requires c κs = search needs
-
 slice-aggregate-request : tie.Need-slice-aggregate-request
 slice-aggregate-request c =
     let s = c .before .before .before .args .s .now in
     sym (length-take-le _ _ (omega (arith, c .before .comment .ensures, run-le (λ b. not (isComment b)) s)))
-
-request-requires : tie.Need-request-requires
-request-requires c κs = search needs
 
 returns : tie.Need-returns
 unfolding readLine
@@ -33,5 +27,4 @@ returns c =
     ∙ ap (λ (l : List ℕ). requestOf (wordsOf l)) (ap (λ (n : ℕ). take n s) (c .before .before .comment .ensures) ∙ uncommented-taken s)
 
 pub read-line-spec : {M : Type 1} → statement M
-read-line-spec =
-    tie.close (tie.spec comment-requires slice-aggregate-request request-requires returns)
+read-line-spec = tie.close (tie.spec (search needs) slice-aggregate-request (search needs) returns)

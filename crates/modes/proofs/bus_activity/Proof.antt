@@ -8,15 +8,6 @@ use borrow.Author.Needs.{needs}
 use Rattle.modes.proofs.bus_activity.Statement.{statement}
 use Rattle.modes.proofs.bus_activity.Tie as tie
 
-add-woken : tie.Need-add-woken
-add-woken c = search needs
-
-changed-requires : tie.Need-changed-requires
-changed-requires c κs = search needs
-
-raised-requires : tie.Need-raised-requires
-raised-requires c κs = search needs
-
 returns : tie.Need-returns
 unfolding busActivity
 returns c =
@@ -28,14 +19,8 @@ returns c =
       c .before .changed .ensures,
     )
 
-returns-2 : tie.Need-returns-2
-unfolding busActivity
-returns-2 c = search (picks, judges)
-
-returns-3 : tie.Need-returns-3
-unfolding busActivity
-returns-3 c = search (picks, judges)
-
 pub bus-activity-spec : {M : Type 1} → statement M
+unfolding busActivity
 bus-activity-spec =
-    tie.close (tie.spec add-woken changed-requires raised-requires returns returns-2 returns-3)
+    tie.close
+    (tie.spec (search needs) (search needs) (search needs) returns (λ c. search (picks, judges)) (λ c. search (picks, judges)))

@@ -5,12 +5,6 @@ use borrow.Author.Needs.{needs}
 use Rattle.modes.proofs.bus_quiet.Statement.{statement}
 use Rattle.modes.proofs.bus_quiet.Tie as tie
 
-can-sleep-requires : tie.Need-can-sleep-requires
-can-sleep-requires c κs = search needs
-
-changed-requires : tie.Need-changed-requires
-changed-requires c κs = search needs
-
 returns : tie.Need-returns
 unfolding busQuiet
 returns c = rw (c .changed .ensures, ← c .before .before .can-sleep .ensures) (search (picks, c .before .if1 .taken))
@@ -20,4 +14,4 @@ unfolding busQuiet
 returns-2 c = rw (← c .before .can-sleep .ensures) (search (picks, judges, c .if1 .left))
 
 pub bus-quiet-spec : {M : Type 1} → statement M
-bus-quiet-spec = tie.close (tie.spec can-sleep-requires changed-requires returns returns-2)
+bus-quiet-spec = tie.close (tie.spec (search needs) (search needs) returns returns-2)

@@ -5,13 +5,6 @@ use borrow.Author.Needs.{needs}
 use Rattle.modes.proofs.can_sleep.Statement.{statement}
 use Rattle.modes.proofs.can_sleep.Tie as tie
 
-mode-of-requires : tie.Need-mode-of-requires
-mode-of-requires c κs = search needs
-
-returns : tie.Need-returns
-unfolding canSleep
-returns c = rw (← c .before .before .mode-of .ensures) (search (picks, judges, c .if2 .taken, c .before .if1 .taken))
-
 returns-2 : tie.Need-returns-2
 unfolding canSleep
 returns-2 c =
@@ -24,9 +17,11 @@ returns-3 c =
     rw (← c .before .before .before .mode-of .ensures)
     (search (picks, judges, c .if3 .left, c .before .if2 .left, c .before .before .if1 .taken))
 
-returns-4 : tie.Need-returns-4
-unfolding canSleep
-returns-4 c = rw (← c .before .mode-of .ensures) (search (picks, judges, c .if1 .left))
-
 pub can-sleep-spec : {M : Type 1} → statement M
-can-sleep-spec = tie.close (tie.spec mode-of-requires returns returns-2 returns-3 returns-4)
+unfolding canSleep
+can-sleep-spec =
+    tie.close
+    (tie.spec (search needs)
+    (λ c. rw (← c .before .before .mode-of .ensures) (search (picks, judges, c .if2 .taken, c .before .if1 .taken)))
+    returns-2 returns-3
+    (λ c. rw (← c .before .mode-of .ensures) (search (picks, judges, c .if1 .left))))

@@ -5,12 +5,9 @@ use borrow.Author.Needs.{needs}
 use Rattle.modes.proofs.changed.Statement.{statement}
 use Rattle.modes.proofs.changed.Tie as tie
 
-raised-requires : tie.Need-raised-requires
-raised-requires c κs = search needs
-
 returns : tie.Need-returns
 unfolding changed
 returns c = search (picks, judges)
 
 pub changed-spec : {M : Type 1} → statement M
-changed-spec = tie.close (tie.spec raised-requires returns)
+changed-spec = tie.close (tie.spec (search needs) returns)

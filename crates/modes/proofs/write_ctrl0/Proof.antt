@@ -5,12 +5,6 @@ use borrow.Author.Needs.{needs}
 use Rattle.modes.proofs.write_ctrl0.Statement.{statement}
 use Rattle.modes.proofs.write_ctrl0.Tie as tie
 
-mode-of-requires : tie.Need-mode-of-requires
-mode-of-requires c κs = search needs
-
-reset-requires : tie.Need-reset-requires
-reset-requires c κs = search needs
-
 returns : tie.Need-returns
 unfolding writeCtrl0
 returns c = rw (← c .before .before .before .mode-of .ensures, ← c .before .reset .ensures) (search (picks, judges, c .before .before .if1 .taken))
@@ -24,12 +18,6 @@ unfolding writeCtrl0
 returns-3 c =
     rw (← c .before .before .before .before .mode-of .ensures)
     (search (picks, judges, c .if3 .taken, c .before .if2 .left, c .before .before .before .if1 .left))
-
-stopped-requires : tie.Need-stopped-requires
-stopped-requires c κs = search needs
-
-changed-requires : tie.Need-changed-requires
-changed-requires c κs = search needs
 
 returns-4 : tie.Need-returns-4
 unfolding writeCtrl0
@@ -48,14 +36,4 @@ returns-4 c =
     ))
 
 pub write-ctrl0-spec : {M : Type 1} → statement M
-write-ctrl0-spec =
-    tie.close
-    (tie.spec
-    mode-of-requires
-    reset-requires
-    returns
-    returns-2
-    returns-3
-    stopped-requires
-    changed-requires
-    returns-4)
+write-ctrl0-spec = tie.close (tie.spec (search needs) (search needs) returns returns-2 returns-3 (search needs) (search needs) returns-4)

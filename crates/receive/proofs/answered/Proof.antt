@@ -5,15 +5,6 @@ use borrow.Author.Needs.{needs}
 use Rattle.receive.proofs.answered.Statement.{statement}
 use Rattle.receive.proofs.answered.Tie as tie
 
-filton-requires : tie.Need-filton-requires
-filton-requires c κs = search needs
-
-passed-requires : tie.Need-passed-requires
-passed-requires c κs = search needs
-
-room-requires : tie.Need-room-requires
-room-requires c κs = search needs
-
 returns : tie.Need-returns
 unfolding answered
 returns c = rw (← c .before .before .filton .ensures, ← c .passed .ensures) (search (picks, judges, c .before .if1 .taken))
@@ -23,6 +14,4 @@ unfolding answered
 returns-2 c = rw (← c .before .before .filton .ensures, ← c .room .ensures) (search (picks, judges, c .before .if1 .left))
 
 pub answered-spec : {M : Type 1} → statement M
-answered-spec =
-    tie.close
-    (tie.spec filton-requires passed-requires room-requires returns returns-2)
+answered-spec = tie.close (tie.spec (search needs) (search needs) (search needs) returns returns-2)

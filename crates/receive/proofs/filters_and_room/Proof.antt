@@ -4,15 +4,9 @@ use borrow.Author.Needs.{needs}
 use Rattle.receive.proofs.filters_and_room.Statement.{statement}
 use Rattle.receive.proofs.filters_and_room.Tie as tie
 
-hit-requires : tie.Need-hit-requires
-hit-requires c κs = search needs
-
-answered-requires : tie.Need-answered-requires
-answered-requires c κs = search needs
-
 returns : tie.Need-returns
 unfolding filtersAndRoom
 returns c = rw (c .answered .ensures, c .before .hit .ensures)
 
 pub filters-and-room-spec : {M : Type 1} → statement M
-filters-and-room-spec = tie.close (tie.spec hit-requires answered-requires returns)
+filters-and-room-spec = tie.close (tie.spec (search needs) (search needs) returns)

@@ -5,21 +5,6 @@ use borrow.Author.Needs.{needs}
 use Rattle.receive.proofs.hit.Statement.{statement}
 use Rattle.receive.proofs.hit.Tie as tie
 
-filton-requires : tie.Need-filton-requires
-filton-requires c κs = search needs
-
-bank-requires : tie.Need-bank-requires
-bank-requires c κs = search needs
-
-bank-requires-2 : tie.Need-bank-requires-2
-bank-requires-2 c κs = search needs
-
-compared-requires : tie.Need-compared-requires
-compared-requires c κs = search needs
-
-lowest-requires : tie.Need-lowest-requires
-lowest-requires c κs = search needs
-
 returns : tie.Need-returns
 unfolding hit
 returns c =
@@ -37,13 +22,4 @@ unfolding hit
 returns-2 c = rw (← c .before .filton .ensures) (search (picks, judges, c .if1 .left))
 
 pub hit-spec : {M : Type 1} → statement M
-hit-spec =
-    tie.close
-    (tie.spec
-    filton-requires
-    bank-requires
-    bank-requires-2
-    compared-requires
-    lowest-requires
-    returns
-    returns-2)
+hit-spec = tie.close (tie.spec (search needs) (search needs) (search needs) (search needs) (search needs) returns returns-2)

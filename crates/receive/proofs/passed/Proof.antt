@@ -4,15 +4,6 @@ use borrow.Author.Needs.{needs}
 use Rattle.receive.proofs.passed.Statement.{statement}
 use Rattle.receive.proofs.passed.Tie as tie
 
-enum-told : tie.Need-enum-told
-enum-told c = search needs
-
-room-requires : tie.Need-room-requires
-room-requires c κs = search needs
-
-enum-told-2 : tie.Need-enum-told-2
-enum-told-2 c = search needs
-
 returns : tie.Need-returns
 unfolding passed
 returns c = rw (c .before .enum-told .given .1) (c .room .ensures)
@@ -22,4 +13,4 @@ unfolding passed
 returns-2 c = rw (c .enum-told2 .given .1)
 
 pub passed-spec : {M : Type 1} → statement M
-passed-spec = tie.close (tie.spec enum-told room-requires enum-told-2 returns returns-2)
+passed-spec = tie.close (tie.spec (search needs) (search needs) (search needs) returns returns-2)

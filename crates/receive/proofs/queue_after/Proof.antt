@@ -5,16 +5,6 @@ use borrow.Author.Needs.{needs}
 use Rattle.receive.proofs.queue_after.Statement.{statement}
 use Rattle.receive.proofs.queue_after.Tie as tie
 
-put-requires : tie.Need-put-requires
-put-requires c κs = search needs
-
-returns : tie.Need-returns
-unfolding queueAfter
-returns c = search (picks, judges)
-
-returns-2 : tie.Need-returns-2
-unfolding queueAfter
-returns-2 c = search (picks, judges)
-
 pub queue-after-spec : {M : Type 1} → statement M
-queue-after-spec = tie.close (tie.spec put-requires returns returns-2)
+unfolding queueAfter
+queue-after-spec = tie.close (tie.spec (search needs) (λ c. search (picks, judges)) (λ c. search (picks, judges)))

@@ -5,20 +5,15 @@ use borrow.Author.Needs.{needs}
 use Rattle.refused.proofs.finds_none.Statement.{statement}
 use Rattle.refused.proofs.finds_none.Tie as tie
 
-reads-message-requires : tie.Need-reads-message-requires
-reads-message-requires c κs = search needs
-
-returns : tie.Need-returns
-unfolding findsNone
-returns c = rw (← c .before .reads-message .ensures) (search (picks, judges, c .if1 .taken))
-
 returns-2 : tie.Need-returns-2
 unfolding findsNone
 returns-2 c = rw (← c .before .before .reads-message .ensures) (search (picks, judges, c .if2 .taken, c .before .if1 .left))
 
-returns-3 : tie.Need-returns-3
-unfolding findsNone
-returns-3 c = rw (← c .before .before .reads-message .ensures) (search (picks, judges, c .if2 .left, c .before .if1 .left))
-
 pub finds-none-spec : {M : Type 1} → statement M
-finds-none-spec = tie.close (tie.spec reads-message-requires returns returns-2 returns-3)
+unfolding findsNone
+finds-none-spec =
+    tie.close
+    (tie.spec (search needs)
+    (λ c. rw (← c .before .reads-message .ensures) (search (picks, judges, c .if1 .taken)))
+    returns-2
+    (λ c. rw (← c .before .before .reads-message .ensures) (search (picks, judges, c .if2 .left, c .before .if1 .left))))

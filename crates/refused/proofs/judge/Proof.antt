@@ -5,21 +5,9 @@ use borrow.Author.Needs.{needs}
 use Rattle.refused.proofs.judge.Statement.{statement}
 use Rattle.refused.proofs.judge.Tie as tie
 
-proper-requires : tie.Need-proper-requires
-proper-requires c κs = search needs
-
 returns : tie.Need-returns
 unfolding verdict
 returns c = rw (← c .before .before .proper .ensures) (search (picks, judges, c .if2 .taken, c .before .if1 .taken))
-
-at-requires : tie.Need-at-requires
-at-requires c κs = search needs
-
-find-requires : tie.Need-find-requires
-find-requires c κs = search needs
-
-row-judged-requires : tie.Need-row-judged-requires
-row-judged-requires c κs = search needs
 
 returns-2 : tie.Need-returns-2
 unfolding verdict
@@ -37,13 +25,4 @@ unfolding verdict
 returns-3 c = rw (← c .before .proper .ensures) (search (picks, judges, c .if1 .left))
 
 pub judge-spec : {M : Type 1} → statement M
-judge-spec =
-    tie.close
-    (tie.spec
-    proper-requires
-    returns
-    at-requires
-    find-requires
-    row-judged-requires
-    returns-2
-    returns-3)
+judge-spec = tie.close (tie.spec (search needs) returns (search needs) (search needs) (search needs) returns-2 returns-3)

@@ -5,16 +5,6 @@ use borrow.Author.Needs.{needs}
 use Rattle.refused.proofs.outside_set_up.Statement.{statement}
 use Rattle.refused.proofs.outside_set_up.Tie as tie
 
-sets-up-requires : tie.Need-sets-up-requires
-sets-up-requires c κs = search needs
-
-returns : tie.Need-returns
-unfolding outsideSetUp
-returns c = search (picks, judges)
-
-returns-2 : tie.Need-returns-2
-unfolding outsideSetUp
-returns-2 c = search (picks, judges)
-
 pub outside-set-up-spec : {M : Type 1} → statement M
-outside-set-up-spec = tie.close (tie.spec sets-up-requires returns returns-2)
+unfolding outsideSetUp
+outside-set-up-spec = tie.close (tie.spec (search needs) (λ c. search (picks, judges)) (λ c. search (picks, judges)))

@@ -4,25 +4,15 @@ use Rattle.base.specs.Pick.{picks, judges}
 use Rattle.refused.proofs.reads_message.Statement.{statement}
 use Rattle.refused.proofs.reads_message.Tie as tie
 
-returns : tie.Need-returns
-unfolding readsMessage
-returns c = search (picks, judges)
-
-returns-2 : tie.Need-returns-2
-unfolding readsMessage
-returns-2 c = rw (c .match .keys2)
-
-returns-3 : tie.Need-returns-3
-unfolding readsMessage
-returns-3 c = rw (c .match .keys3)
-
 returns-4 : tie.Need-returns-4
 unfolding readsMessage
 returns-4 c = rw (c .match .keys4)
 
-returns-5 : tie.Need-returns-5
-unfolding readsMessage
-returns-5 c = search (picks, judges)
-
 pub reads-message-spec : {M : Type 1} → statement M
-reads-message-spec = tie.close (tie.spec returns returns-2 returns-3 returns-4 returns-5)
+unfolding readsMessage
+reads-message-spec =
+    tie.close
+    (tie.spec (λ c. search (picks, judges))
+    (λ c. rw (c .match .keys2))
+    (λ c. rw (c .match .keys3))
+    returns-4 (λ c. search (picks, judges)))

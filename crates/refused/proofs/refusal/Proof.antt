@@ -1,78 +1,46 @@
 -- `refused::refusal` meets its contract. Assumes nothing.
+use mathlib.Core.Path.{_≡_}
+use mathlib.Core.Bool.{not}
+use lib.Dec.{ltb}
 use Rattle.refused.specs.Refused.{refusal}
-use Rattle.base.specs.Pick.{picks, judges}
+use Rattle.base.specs.Pick.{pick, picks, judges}
 use borrow.Author.Needs.{needs}
 use Rattle.refused.proofs.refusal.Statement.{statement}
 use Rattle.refused.proofs.refusal.Tie as tie
 
-length-fits-requires : tie.Need-length-fits-requires
-length-fits-requires c κs = search needs
-
-cast-short : tie.Need-cast-short
-cast-short c = search needs
-
-outside-set-up-requires : tie.Need-outside-set-up-requires
-outside-set-up-requires c κs = search needs
-
-finds-full-requires : tie.Need-finds-full-requires
-finds-full-requires c κs = search needs
-
-finds-none-requires : tie.Need-finds-none-requires
-finds-none-requires c κs = search needs
+-- the rule, with the answers that the code has
+told : (c : tie.After-finds-none)
+    → let a = c .before .before .before .before .before .before .args in
+    refusal (a .d) (a .r) (a .bytes .now) (a .room)
+    ≡ pick (not (c .before .before .before .before .length-fits .result)) 3
+    (pick (ltb (a .room) (a .r .out)) 4
+    (pick (c .before .before .outside-set-up .result) 5
+    (pick (c .before .finds-full .result) 6
+    (pick (c .finds-none .result) 7
+    0))))
+unfolding refusal
+told c =
+    rw (
+      ← c .before .before .before .before .length-fits .ensures,
+      ← c .before .before .outside-set-up .ensures,
+      ← c .before .finds-full .ensures,
+      ← c .finds-none .ensures,
+    )
 
 returns : tie.Need-returns
-unfolding refusal
-returns c =
-    rw (
-      ← c .before .before .before .before .before .length-fits .ensures,
-      ← c .before .before .before .outside-set-up .ensures,
-      ← c .before .before .finds-full .ensures,
-      ← c .before .finds-none .ensures,
-    )
-    (search (picks, judges, c .if1 .taken))
+returns c = rw (told (c .before)) (search (picks, judges, c .if1 .taken))
 
 returns-2 : tie.Need-returns-2
-unfolding refusal
-returns-2 c =
-    rw (
-      ← c .before .before .before .before .before .before .length-fits .ensures,
-      ← c .before .before .before .before .outside-set-up .ensures,
-      ← c .before .before .before .finds-full .ensures,
-      ← c .before .before .finds-none .ensures,
-    )
-    (search (picks, judges, c .if2 .taken, c .before .if1 .left))
+returns-2 c = rw (told (c .before .before)) (search (picks, judges, c .if2 .taken, c .before .if1 .left))
 
-returns-3 : tie.Need-returns-3
-unfolding refusal
-returns-3 c =
-    rw (
-      ← c .before .before .before .before .before .before .before .length-fits .ensures,
-      ← c .before .before .before .before .before .outside-set-up .ensures,
-      ← c .before .before .before .before .finds-full .ensures,
-      ← c .before .before .before .finds-none .ensures,
-    )
-    (search (picks, judges, c .if3 .taken, c .before .if2 .left, c .before .before .if1 .left))
-
-returns-4 : tie.Need-returns-4
-unfolding refusal
-returns-4 c =
-    rw (
-      ← c .before .before .before .before .before .before .before .before .length-fits .ensures,
-      ← c .before .before .before .before .before .before .outside-set-up .ensures,
-      ← c .before .before .before .before .before .finds-full .ensures,
-      ← c .before .before .before .before .finds-none .ensures,
-    )
-    (search (picks, judges, c .if4 .taken, c .before .if3 .left, c .before .before .if2 .left, c .before .before .before .if1 .left))
-
-returns-5 : tie.Need-returns-5
-unfolding refusal
-returns-5 c =
-    rw (
-      ← c .before .before .before .before .before .before .before .before .before .length-fits .ensures,
-      ← c .before .before .before .before .before .before .before .outside-set-up .ensures,
-      ← c .before .before .before .before .before .before .finds-full .ensures,
-      ← c .before .before .before .before .before .finds-none .ensures,
-    )
+pub refusal-spec : {M : Type 1} → statement M
+refusal-spec =
+    tie.close
+    (tie.spec (search needs) (search needs) (search needs) (search needs) (search needs) returns returns-2
+    (λ c. rw (told (c .before .before .before)) (search (picks, judges, c .if3 .taken, c .before .if2 .left, c .before .before .if1 .left)))
+    (λ c. rw (told (c .before .before .before .before))
+    (search (picks, judges, c .if4 .taken, c .before .if3 .left, c .before .before .if2 .left, c .before .before .before .if1 .left)))
+    (λ c. rw (told (c .before .before .before .before .before))
     (search (
       picks,
       judges,
@@ -81,17 +49,8 @@ returns-5 c =
       c .before .before .if3 .left,
       c .before .before .before .if2 .left,
       c .before .before .before .before .if1 .left,
-    ))
-
-returns-6 : tie.Need-returns-6
-unfolding refusal
-returns-6 c =
-    rw (
-      ← c .before .before .before .before .before .before .before .before .before .length-fits .ensures,
-      ← c .before .before .before .before .before .before .before .outside-set-up .ensures,
-      ← c .before .before .before .before .before .before .finds-full .ensures,
-      ← c .before .before .before .before .before .finds-none .ensures,
-    )
+    )))
+    (λ c. rw (told (c .before .before .before .before .before))
     (search (
       picks,
       judges,
@@ -100,20 +59,4 @@ returns-6 c =
       c .before .before .if3 .left,
       c .before .before .before .if2 .left,
       c .before .before .before .before .if1 .left,
-    ))
-
-pub refusal-spec : {M : Type 1} → statement M
-refusal-spec =
-    tie.close
-    (tie.spec
-    length-fits-requires
-    cast-short
-    outside-set-up-requires
-    finds-full-requires
-    finds-none-requires
-    returns
-    returns-2
-    returns-3
-    returns-4
-    returns-5
-    returns-6)
+    ))))

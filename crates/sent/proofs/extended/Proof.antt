@@ -4,11 +4,8 @@ use borrow.Author.Needs.{needs}
 use Rattle.sent.proofs.extended.Statement.{statement}
 use Rattle.sent.proofs.extended.Tie as tie
 
-id-from-requires : tie.Need-id-from-requires
-id-from-requires c κs = search needs
-
 returns : tie.Need-returns
 returns c = rw (c .id-from .ensures) (simp div-one)
 
 pub extended-spec : {M : Type 1} → statement M
-extended-spec = tie.close (tie.spec id-from-requires returns)
+extended-spec = tie.close (tie.spec (search needs) returns)

@@ -3,11 +3,8 @@ use borrow.Author.Needs.{needs}
 use Rattle.sent.proofs.is_extended.Statement.{statement}
 use Rattle.sent.proofs.is_extended.Tie as tie
 
-at-requires : tie.Need-at-requires
-at-requires c κs = search needs
-
 returns : tie.Need-returns
 returns c = rw (c .at .ensures)
 
 pub is-extended-spec : {M : Type 1} → statement M
-is-extended-spec = tie.close (tie.spec at-requires returns)
+is-extended-spec = tie.close (tie.spec (search needs) returns)

@@ -12,40 +12,16 @@ use Rattle.sent.proofs.Enough.{data-from-le, enough}
 use Rattle.sent.proofs.message_in.Statement.{statement}
 use Rattle.sent.proofs.message_in.Tie as tie
 
-at-requires : tie.Need-at-requires
-at-requires c κs = search needs
-
-header-sent-requires : tie.Need-header-sent-requires
-header-sent-requires c κs = search needs
-
-data-from-requires : tie.Need-data-from-requires
-data-from-requires c κs = search needs
-
-data-bytes-requires : tie.Need-data-bytes-requires
-data-bytes-requires c κs = search needs
-
 add-end : tie.Need-add-end
 add-end c =
     let s = c .before .before .before .before .before .args .s .now in
     record { fits = omega (arith, data-from-le s, data-bytes-le (c .before .before .header-sent .result), c .data-bytes .ensures, c .before .data-from .ensures) }
-
-sub-put : tie.Need-sub-put
-sub-put c = search needs
-
-part-put-start : tie.Need-part-put-start
-part-put-start c = search needs
 
 part-put-end : tie.Need-part-put-end
 part-put-end c =
     let b = c .before .before .before .before .before in
     let n : c .data-bytes .result ≡ dataBytes (headerSent (b .args .s .now)) = c .data-bytes .ensures ∙ ap dataBytes (c .before .before .header-sent .ensures) in
     omega (arith, enough (b .args .s .now) (b .pre), n, c .before .data-from .ensures)
-
-slice-aggregate-put : tie.Need-slice-aggregate-put
-slice-aggregate-put c = search needs
-
-put-requires : tie.Need-put-requires
-put-requires c κs = search needs
 
 returns : tie.Need-returns
 returns c =
@@ -68,15 +44,5 @@ returns c =
 pub message-in-spec : {M : Type 1} → statement M
 message-in-spec =
     tie.close
-    (tie.spec
-    at-requires
-    header-sent-requires
-    data-from-requires
-    data-bytes-requires
-    add-end
-    sub-put
-    part-put-start
-    part-put-end
-    slice-aggregate-put
-    put-requires
-    returns)
+    (tie.spec (search needs) (search needs) (search needs) (search needs) add-end (search needs) (search needs) part-put-end (search needs)
+    (search needs) returns)

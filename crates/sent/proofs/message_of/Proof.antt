@@ -6,9 +6,6 @@ use Rattle.sent.specs.Sent.{messageOf}
 use Rattle.sent.proofs.message_of.Statement.{statement}
 use Rattle.sent.proofs.message_of.Tie as tie
 
-right-length-requires : tie.Need-right-length-requires
-right-length-requires c κs = search needs
-
 message-in-requires : tie.Need-message-in-requires
 message-in-requires c κs = sym (c .before .right-length .ensures) ∙ c .if1 .taken
 
@@ -21,5 +18,4 @@ unfolding messageOf
 returns-2 c = pick-no _ _ _ _ _ (sym (c .before .right-length .ensures) ∙ c .if1 .left) refl
 
 pub message-of-spec : {M : Type 1} → statement M
-message-of-spec =
-    tie.close (tie.spec right-length-requires message-in-requires returns returns-2)
+message-of-spec = tie.close (tie.spec (search needs) message-in-requires returns returns-2)

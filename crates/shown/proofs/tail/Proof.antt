@@ -9,22 +9,10 @@ use borrow.Author.Needs.{needs}
 use Rattle.shown.proofs.tail.Statement.{statement}
 use Rattle.shown.proofs.tail.Tie as tie
 
-sub-put : tie.Need-sub-put
-sub-put c = search needs
-
-part-put-start : tie.Need-part-put-start
-part-put-start c = search needs
-
 part-put-end : tie.Need-part-put-end
 part-put-end c =
     let sixteen : length (c .before .before .args .m .bytes) ≡ 16 = search needs in
     omega arith
-
-slice-aggregate-put : tie.Need-slice-aggregate-put
-slice-aggregate-put c = search needs
-
-put-requires : tie.Need-put-requires
-put-requires c κs = search needs
 
 returns : tie.Need-returns
 unfolding cut
@@ -36,6 +24,4 @@ returns c =
     c .before .put .ensures ∙ rw rest
 
 pub tail-spec : {M : Type 1} → statement M
-tail-spec =
-    tie.close
-    (tie.spec sub-put part-put-start part-put-end slice-aggregate-put put-requires returns)
+tail-spec = tie.close (tie.spec (search needs) (search needs) part-put-end (search needs) (search needs) returns)

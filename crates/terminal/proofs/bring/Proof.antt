@@ -9,18 +9,6 @@ use Rattle.bus.specs.declared.types.Outcome.{Outcome}
 use Rattle.terminal.proofs.bring.Statement.{statement}
 use Rattle.terminal.proofs.bring.Tie as tie
 
-slice-aggregate-copy : tie.Need-slice-aggregate-copy
-slice-aggregate-copy c = search needs
-
-copy-requires : tie.Need-copy-requires
-copy-requires c κs = search needs
-
-scanner-requires : tie.Need-scanner-requires
-scanner-requires c κs = search needs
-
-event-requires : tie.Need-event-requires
-event-requires c κs = search needs
-
 returns : tie.Need-returns
 returns c =
     let start = c .before .before .before .before .before .before .before in
@@ -31,5 +19,4 @@ returns c =
     ∙ rw (c .before .before .scanner .ensures, c .before .before .before .before .copy .ensures .1, whole)
 
 pub bring-spec : {M : Type 1} → statement M
-bring-spec =
-    tie.close (tie.spec slice-aggregate-copy copy-requires scanner-requires event-requires returns)
+bring-spec = tie.close (tie.spec (search needs) (search needs) (search needs) (search needs) returns)

@@ -10,30 +10,6 @@ use Rattle.host.specs.declared.Outcome.{Outcome}
 use Rattle.terminal.proofs.read.Statement.{statement}
 use Rattle.terminal.proofs.read.Tie as tie
 
-slice-aggregate-transfer : tie.Need-slice-aggregate-transfer
-slice-aggregate-transfer c = search needs
-
-slice-aggregate-transfer-2 : tie.Need-slice-aggregate-transfer-2
-slice-aggregate-transfer-2 c = search needs
-
-transfer-requires : tie.Need-transfer-requires
-transfer-requires c κs = search needs
-
-sub-copy : tie.Need-sub-copy
-sub-copy c = search needs
-
-part-copy-start : tie.Need-part-copy-start
-part-copy-start c = search needs
-
-part-copy-end : tie.Need-part-copy-end
-part-copy-end c = search needs
-
-copy-requires : tie.Need-copy-requires
-copy-requires c κs = search needs
-
-same-length : tie.Need-same-length
-same-length c = search needs
-
 -- the message from its seventh byte on fills the line
 copied : (message line : List ℕ) → length message ≡ 14 → length line ≡ 8
     → take (length (take 8 (drop 6 message))) (take 8 (drop 6 message)) ++ drop (length (take 8 (drop 6 message))) line ≡ drop 6 message
@@ -58,13 +34,5 @@ returns c =
 pub read-spec : {M : Type 1} → statement M
 read-spec =
     tie.close
-    (tie.spec
-    slice-aggregate-transfer
-    slice-aggregate-transfer-2
-    transfer-requires
-    sub-copy
-    part-copy-start
-    part-copy-end
-    copy-requires
-    same-length
+    (tie.spec (search needs) (search needs) (search needs) (search needs) (search needs) (search needs) (search needs) (search needs)
     returns)

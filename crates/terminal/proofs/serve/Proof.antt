@@ -61,9 +61,6 @@ loop-again c =
     rw (c .read-status2 .ensures, c .before .before .before .read .ensures .0)
     (again _ _ _ _ _ _ (turn .before .loop .inv) (turn .loop-test .taken) (c .before .before .before .read .last .1 .0) (line-eight c) (c .before .before .before .read .ensures .1))
 
-same-length : tie.Need-same-length Inv-loop μ-loop
-same-length c = search needs
-
 returns : tie.Need-returns Inv-loop μ-loop
 returns c =
     let d = c .before .before .before .before .before .before in
@@ -75,19 +72,5 @@ returns c =
 pub serve-spec : {M : Type 1} → statement M
 serve-spec =
     tie.close
-    (tie.spec
-    Inv-loop
-    μ-loop
-    read-flags-requires
-    read-status-requires
-    loop-holds
-    add-past
-    sub-read
-    part-read-start
-    part-read-end
-    read-requires
-    read-status-requires-2
-    loop-less
-    loop-again
-    same-length
-    returns)
+    (tie.spec Inv-loop μ-loop read-flags-requires read-status-requires loop-holds add-past sub-read part-read-start part-read-end
+    read-requires read-status-requires-2 loop-less loop-again (search needs) returns)

@@ -20,26 +20,8 @@ switched-on-requires c κs = tt
 loop-holds : tie.Need-loop-holds Inv-loop μ-loop
 loop-holds c = rw (c .switched-on .ensures) (on _ _ _ (omega arith) (c .before .before .before .pre))
 
-mul-from : tie.Need-mul-from Inv-loop μ-loop
-mul-from c = search needs
-
-add-past : tie.Need-add-past Inv-loop μ-loop
-add-past c = search needs
-
-sub-bring : tie.Need-sub-bring Inv-loop μ-loop
-sub-bring c = search needs
-
-part-bring-start : tie.Need-part-bring-start Inv-loop μ-loop
-part-bring-start c = search needs
-
-part-bring-end : tie.Need-part-bring-end Inv-loop μ-loop
-part-bring-end c = search needs
-
 bring-requires : tie.Need-bring-requires Inv-loop μ-loop
 bring-requires c κs = scan-eight _ _ _ _ _ _ _ _ (c .before .before .loop .inv) (c .before .loop-test .taken)
-
-add-i : tie.Need-add-i Inv-loop μ-loop
-add-i c = search needs
 
 -- the scan has come
 came : (c : tie.After-bring Inv-loop μ-loop)
@@ -52,14 +34,8 @@ came c =
 look-requires : tie.Need-look-requires Inv-loop μ-loop
 look-requires c κs = ready _ _ _ _ _ _ _ _ (came (c .before .before))
 
-loop-less : tie.Need-loop-less Inv-loop μ-loop
-loop-less c = search needs
-
 loop-again : tie.Need-loop-again Inv-loop μ-loop
 loop-again c = looked _ _ _ _ _ _ _ _ (came (c .before .before .before .before .before .before)) _ _ (c .before .before .before .look .ensures) _
-
-loop-less-2 : tie.Need-loop-less-2 Inv-loop μ-loop
-loop-less-2 c = search needs
 
 loop-again-2 : tie.Need-loop-again-2 Inv-loop μ-loop
 loop-again-2 c =
@@ -70,9 +46,6 @@ loop-again-2 c =
 look-requires-2 : tie.Need-look-requires-2 Inv-loop μ-loop
 look-requires-2 c κs = ready _ _ _ _ _ _ _ _ (c .before .before .loop .inv)
 
-same-length : tie.Need-same-length Inv-loop μ-loop
-same-length c = search needs
-
 returns : tie.Need-returns Inv-loop μ-loop
 returns c =
     let all = c .before .before .before .before in
@@ -81,23 +54,5 @@ returns c =
 pub shift-spec : {M : Type 1} → statement M
 shift-spec =
     tie.close
-    (tie.spec
-    Inv-loop
-    μ-loop
-    switched-on-requires
-    loop-holds
-    mul-from
-    add-past
-    sub-bring
-    part-bring-start
-    part-bring-end
-    bring-requires
-    add-i
-    look-requires
-    loop-less
-    loop-again
-    loop-less-2
-    loop-again-2
-    look-requires-2
-    same-length
-    returns)
+    (tie.spec Inv-loop μ-loop switched-on-requires loop-holds (search needs) (search needs) (search needs) (search needs) (search needs)
+    bring-requires (search needs) look-requires (search needs) loop-again (search needs) loop-again-2 look-requires-2 (search needs) returns)

@@ -4,12 +4,9 @@ use borrow.Author.Needs.{needs}
 use Rattle.transmit.proofs.aborted.Statement.{statement}
 use Rattle.transmit.proofs.aborted.Tie as tie
 
-stopped-requires : tie.Need-stopped-requires
-stopped-requires c κs = search needs
-
 returns : tie.Need-returns
 unfolding aborted
 returns c = rw (c .stopped .ensures)
 
 pub aborted-spec : {M : Type 1} → statement M
-aborted-spec = tie.close (tie.spec stopped-requires returns)
+aborted-spec = tie.close (tie.spec (search needs) returns)

@@ -5,12 +5,6 @@ use borrow.Author.Needs.{needs}
 use Rattle.transmit.proofs.can_begin.Statement.{statement}
 use Rattle.transmit.proofs.can_begin.Tie as tie
 
-enabled-requires : tie.Need-enabled-requires
-enabled-requires c κs = search needs
-
-sends-requires : tie.Need-sends-requires
-sends-requires c κs = search needs
-
 returns : tie.Need-returns
 unfolding canBegin
 returns c = search (picks, judges)
@@ -58,6 +52,4 @@ unfolding canBegin
 returns-5 c = search (picks, judges)
 
 pub can-begin-spec : {M : Type 1} → statement M
-can-begin-spec =
-    tie.close
-    (tie.spec enabled-requires sends-requires returns returns-2 returns-3 returns-4 returns-5)
+can-begin-spec = tie.close (tie.spec (search needs) (search needs) returns returns-2 returns-3 returns-4 returns-5)

@@ -5,16 +5,6 @@ use borrow.Author.Needs.{needs}
 use Rattle.transmit.proofs.counted_completion.Statement.{statement}
 use Rattle.transmit.proofs.counted_completion.Tie as tie
 
-completed-requires : tie.Need-completed-requires
-completed-requires c κs = search needs
-
-returns : tie.Need-returns
-unfolding countedCompletion
-returns c = search (picks, judges)
-
-returns-2 : tie.Need-returns-2
-unfolding countedCompletion
-returns-2 c = search (picks, judges)
-
 pub counted-completion-spec : {M : Type 1} → statement M
-counted-completion-spec = tie.close (tie.spec completed-requires returns returns-2)
+unfolding countedCompletion
+counted-completion-spec = tie.close (tie.spec (search needs) (λ c. search (picks, judges)) (λ c. search (picks, judges)))

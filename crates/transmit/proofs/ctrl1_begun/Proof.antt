@@ -5,16 +5,6 @@ use borrow.Author.Needs.{needs}
 use Rattle.transmit.proofs.ctrl1_begun.Statement.{statement}
 use Rattle.transmit.proofs.ctrl1_begun.Tie as tie
 
-without-tx1m-requires : tie.Need-without-tx1m-requires
-without-tx1m-requires c κs = search needs
-
-returns : tie.Need-returns
-unfolding ctrl1Begun
-returns c = search (picks, judges)
-
-returns-2 : tie.Need-returns-2
-unfolding ctrl1Begun
-returns-2 c = search (picks, judges)
-
 pub ctrl1-begun-spec : {M : Type 1} → statement M
-ctrl1-begun-spec = tie.close (tie.spec without-tx1m-requires returns returns-2)
+unfolding ctrl1Begun
+ctrl1-begun-spec = tie.close (tie.spec (search needs) (λ c. search (picks, judges)) (λ c. search (picks, judges)))

@@ -5,9 +5,6 @@ use borrow.Author.Needs.{needs}
 use Rattle.transmit.proofs.fifo_after.Statement.{statement}
 use Rattle.transmit.proofs.fifo_after.Tie as tie
 
-take-requires : tie.Need-take-requires
-take-requires c κs = search needs
-
 returns : tie.Need-returns
 unfolding fifoAfter
 returns c = search (picks, judges)
@@ -17,4 +14,4 @@ unfolding fifoAfter
 returns-2 c = search (picks, judges)
 
 pub fifo-after-spec : {M : Type 1} → statement M
-fifo-after-spec = tie.close (tie.spec take-requires returns returns-2)
+fifo-after-spec = tie.close (tie.spec (search needs) returns returns-2)

@@ -9,18 +9,6 @@ use borrow.Author.Needs.{needs}
 use Rattle.transmit.proofs.stamped.Statement.{statement}
 use Rattle.transmit.proofs.stamped.Tie as tie
 
-cast-bytes : tie.Need-cast-bytes
-cast-bytes c = search needs
-
-array-write-bytes : tie.Need-array-write-bytes
-array-write-bytes c = search needs
-
-cast-bytes-2 : tie.Need-cast-bytes-2
-cast-bytes-2 c = search needs
-
-array-write-bytes-2 : tie.Need-array-write-bytes-2
-array-write-bytes-2 c = search needs
-
 returns : tie.Need-returns
 unfolding stamped
 returns c =
@@ -29,5 +17,4 @@ returns c =
     rw (set-two (a .m .bytes) (a .time / 256) (a .time % 256) (omega arith))
 
 pub stamped-spec : {M : Type 1} → statement M
-stamped-spec =
-    tie.close (tie.spec cast-bytes array-write-bytes cast-bytes-2 array-write-bytes-2 returns)
+stamped-spec = tie.close (tie.spec (search needs) (search needs) (search needs) (search needs) returns)

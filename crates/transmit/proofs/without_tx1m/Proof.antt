@@ -5,15 +5,9 @@ use borrow.Author.Needs.{needs}
 use Rattle.transmit.proofs.without_tx1m.Statement.{statement}
 use Rattle.transmit.proofs.without_tx1m.Tie as tie
 
-mul-result : tie.Need-mul-result
-mul-result c = search needs
-
-add-result : tie.Need-add-result
-add-result c = search needs
-
 returns : tie.Need-returns
 unfolding withoutTx1m
 returns c = search (picks, judges)
 
 pub without-tx1m-spec : {M : Type 1} → statement M
-without-tx1m-spec = tie.close (tie.spec mul-result add-result returns)
+without-tx1m-spec = tie.close (tie.spec (search needs) (search needs) returns)

@@ -6,24 +6,6 @@ use native.Mathlib.Omega.{arith}
 use Rattle.line.proofs.answers.ending.Statement.{statement}
 use Rattle.line.proofs.answers.ending.Tie as tie
 
-word-requires : tie.Need-word-requires
-word-requires c κs = search needs
-
-plain-requires : tie.Need-plain-requires
-plain-requires c κs = search needs
-
-sub-unreadable : tie.Need-sub-unreadable
-sub-unreadable c = search needs
-
-part-unreadable-start : tie.Need-part-unreadable-start
-part-unreadable-start c = search needs
-
-part-unreadable-end : tie.Need-part-unreadable-end
-part-unreadable-end c = search needs
-
-unreadable-requires : tie.Need-unreadable-requires
-unreadable-requires c κs = search needs
-
 returns : tie.Need-returns
 unfolding ending
 returns c = c .plain .ensures ∙ rw (c .before .before .word .ensures .none (c .before .if1 .taken))
@@ -35,12 +17,4 @@ returns-2 c = c .unreadable .ensures ∙ rw (c .before .before .before .word .en
 pub ending-spec : {M : Type 1} → statement M
 ending-spec =
     tie.close
-    (tie.spec
-    word-requires
-    plain-requires
-    sub-unreadable
-    part-unreadable-start
-    part-unreadable-end
-    unreadable-requires
-    returns
-    returns-2)
+    (tie.spec (search needs) (search needs) (search needs) (search needs) (search needs) (search needs) returns returns-2)

@@ -3,11 +3,8 @@ use borrow.Author.Needs.{needs}
 use Rattle.line.proofs.answers.unreadable.Statement.{statement}
 use Rattle.line.proofs.answers.unreadable.Tie as tie
 
-head-requires : tie.Need-head-requires
-head-requires c κs = search needs
-
 returns : tie.Need-returns
 returns c = rw (c .head .ensures)
 
 pub unreadable-spec : {M : Type 1} → statement M
-unreadable-spec = tie.close (tie.spec head-requires returns)
+unreadable-spec = tie.close (tie.spec (search needs) returns)

@@ -21,9 +21,6 @@ abbrev μ-loop : tie.MeasureT-loop
 loop-holds : tie.Need-loop-holds Inv-loop μ-loop
 loop-holds c = (search needs, gathered-all _)
 
-word-requires : tie.Need-word-requires Inv-loop μ-loop
-word-requires c κs = search needs
-
 returns : tie.Need-returns Inv-loop μ-loop
 returns c =
     let a = c .before .before .before .before .args in
@@ -41,9 +38,6 @@ part-is-byte-start c = c .before .word .ensures .order
 part-is-byte-end : tie.Need-part-is-byte-end Inv-loop μ-loop
 part-is-byte-end c = c .before .word .ensures .within
 
-is-byte-requires : tie.Need-is-byte-requires Inv-loop μ-loop
-is-byte-requires c κs = search needs
-
 sub-byte : tie.Need-sub-byte Inv-loop μ-loop
 sub-byte c = c .before .before .before .before .word .ensures .order
 
@@ -55,9 +49,6 @@ part-byte-end c = c .before .before .before .before .word .ensures .within
 
 byte-requires : tie.Need-byte-requires Inv-loop μ-loop
 byte-requires c κs = sym (c .before .before .is-byte .ensures) ∙ c .before .if2 .taken
-
-keep-requires : tie.Need-keep-requires Inv-loop μ-loop
-keep-requires c κs = search needs
 
 loop-less : tie.Need-loop-less Inv-loop μ-loop
 loop-less c =
@@ -89,9 +80,6 @@ part-no-data-start c = c .before .before .before .before .word .ensures .order
 part-no-data-end : tie.Need-part-no-data-end Inv-loop μ-loop
 part-no-data-end c = c .before .before .before .before .word .ensures .within
 
-no-data-requires : tie.Need-no-data-requires Inv-loop μ-loop
-no-data-requires c κs = search needs
-
 returns-2 : tie.Need-returns-2 Inv-loop μ-loop
 returns-2 c =
     let a = c .before .before .before .before .before .before .before .before .before .args in
@@ -105,25 +93,6 @@ returns-2 c =
 pub gather-spec : {M : Type 1} → statement M
 gather-spec =
     tie.close
-    (tie.spec
-    Inv-loop
-    μ-loop
-    loop-holds
-    word-requires
-    returns
-    sub-is-byte
-    part-is-byte-start
-    part-is-byte-end
-    is-byte-requires
-    sub-byte
-    part-byte-start
-    part-byte-end
-    byte-requires
-    keep-requires
-    loop-less
-    loop-again
-    sub-no-data
-    part-no-data-start
-    part-no-data-end
-    no-data-requires
-    returns-2)
+    (tie.spec Inv-loop μ-loop loop-holds (search needs) returns sub-is-byte part-is-byte-start part-is-byte-end (search needs) sub-byte
+    part-byte-start part-byte-end byte-requires (search needs) loop-less loop-again sub-no-data part-no-data-start part-no-data-end
+    (search needs) returns-2)

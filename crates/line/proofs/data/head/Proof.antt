@@ -7,17 +7,8 @@ use native.Mathlib.Omega.{arith}
 use Rattle.line.proofs.data.head.Statement.{statement}
 use Rattle.line.proofs.data.head.Tie as tie
 
-at-most-16-requires : tie.Need-at-most-16-requires
-at-most-16-requires c κs = search needs
-
 slice-aggregate-put : tie.Need-slice-aggregate-put
 slice-aggregate-put c = sym (length-take-le _ _ (omega arith))
-
-slice-aggregate-put-2 : tie.Need-slice-aggregate-put-2
-slice-aggregate-put-2 c = search needs
-
-put-requires : tie.Need-put-requires
-put-requires c κs = search needs
 
 returns : tie.Need-returns
 returns c =
@@ -25,6 +16,4 @@ returns c =
     c .before .put .ensures ∙ rw (c .before .before .before .before .at-most-16 .ensures) (head-put (a .word .now))
 
 pub head-spec : {M : Type 1} → statement M
-head-spec =
-    tie.close
-    (tie.spec at-most-16-requires slice-aggregate-put slice-aggregate-put-2 put-requires returns)
+head-spec = tie.close (tie.spec (search needs) slice-aggregate-put (search needs) (search needs) returns)

@@ -5,12 +5,6 @@ use Rattle.base.specs.Pick.{picks}
 use Rattle.line.proofs.data.keep.Statement.{statement}
 use Rattle.line.proofs.data.keep.Tie as tie
 
-element-write-e : tie.Need-element-write-e
-element-write-e c = search needs
-
-add-e : tie.Need-add-e
-add-e c = search needs
-
 returns : tie.Need-returns
 unfolding keepOf
 returns c = search picks
@@ -20,4 +14,4 @@ unfolding keepOf
 returns-2 c = search picks
 
 pub keep-spec : {M : Type 1} → statement M
-keep-spec = tie.close (tie.spec element-write-e add-e returns returns-2)
+keep-spec = tie.close (tie.spec (search needs) (search needs) returns returns-2)

@@ -3,11 +3,8 @@ use borrow.Author.Needs.{needs}
 use Rattle.line.proofs.data.no_data.Statement.{statement}
 use Rattle.line.proofs.data.no_data.Tie as tie
 
-head-requires : tie.Need-head-requires
-head-requires c κs = search needs
-
 returns : tie.Need-returns
 returns c = rw (c .head .ensures)
 
 pub no-data-spec : {M : Type 1} → statement M
-no-data-spec = tie.close (tie.spec head-requires returns)
+no-data-spec = tie.close (tie.spec (search needs) returns)

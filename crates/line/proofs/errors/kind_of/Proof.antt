@@ -53,36 +53,6 @@ word-5 c = word-4 (else-4 c)
 not-5 : (c : tie.Else5) → same (word-5 c) (ascii "bit") ≡ false
 not-5 c = sym (c .before .is5 .ensures) ∙ c .if5 .left
 
-slice-aggregate-is : tie.Need-slice-aggregate-is
-slice-aggregate-is c = search needs
-
-is-requires : tie.Need-is-requires
-is-requires c κs = search needs
-
-slice-aggregate-is-2 : tie.Need-slice-aggregate-is-2
-slice-aggregate-is-2 c = search needs
-
-is-requires-2 : tie.Need-is-requires-2
-is-requires-2 c κs = search needs
-
-slice-aggregate-is-3 : tie.Need-slice-aggregate-is-3
-slice-aggregate-is-3 c = search needs
-
-is-requires-3 : tie.Need-is-requires-3
-is-requires-3 c κs = search needs
-
-slice-aggregate-is-4 : tie.Need-slice-aggregate-is-4
-slice-aggregate-is-4 c = search needs
-
-is-requires-4 : tie.Need-is-requires-4
-is-requires-4 c κs = search needs
-
-slice-aggregate-is-5 : tie.Need-slice-aggregate-is-5
-slice-aggregate-is-5 c = search needs
-
-is-requires-5 : tie.Need-is-requires-5
-is-requires-5 c κs = search needs
-
 returns : tie.Need-returns
 unfolding kindOf
 returns c = pick-yes _ _ _ _ _ (sym (c .before .is .ensures) ∙ c .if1 .taken) refl
@@ -129,20 +99,5 @@ returns-6 c =
 pub kind-of-spec : {M : Type 1} → statement M
 kind-of-spec =
     tie.close
-    (tie.spec
-    slice-aggregate-is
-    is-requires
-    slice-aggregate-is-2
-    is-requires-2
-    slice-aggregate-is-3
-    is-requires-3
-    slice-aggregate-is-4
-    is-requires-4
-    slice-aggregate-is-5
-    is-requires-5
-    returns
-    returns-2
-    returns-3
-    returns-4
-    returns-5
-    returns-6)
+    (tie.spec (search needs) (search needs) (search needs) (search needs) (search needs) (search needs) (search needs) (search needs)
+    (search needs) (search needs) returns returns-2 returns-3 returns-4 returns-5 returns-6)

@@ -5,42 +5,6 @@ use borrow.Author.Needs.{needs}
 use Rattle.line.proofs.errors.txerr.Statement.{statement}
 use Rattle.line.proofs.errors.txerr.Tie as tie
 
-word-requires : tie.Need-word-requires
-word-requires c κs = search needs
-
-sub-kind-of : tie.Need-sub-kind-of
-sub-kind-of c = search needs
-
-part-kind-of-start : tie.Need-part-kind-of-start
-part-kind-of-start c = search needs
-
-part-kind-of-end : tie.Need-part-kind-of-end
-part-kind-of-end c = search needs
-
-kind-of-requires : tie.Need-kind-of-requires
-kind-of-requires c κs = search needs
-
-enum-known-kind : tie.Need-enum-known-kind
-enum-known-kind c = search needs
-
-txerr-counted-requires : tie.Need-txerr-counted-requires
-txerr-counted-requires c κs = search needs
-
-enum-told : tie.Need-enum-told
-enum-told c = search needs
-
-sub-unreadable : tie.Need-sub-unreadable
-sub-unreadable c = search needs
-
-part-unreadable-start : tie.Need-part-unreadable-start
-part-unreadable-start c = search needs
-
-part-unreadable-end : tie.Need-part-unreadable-end
-part-unreadable-end c = search needs
-
-unreadable-requires : tie.Need-unreadable-requires
-unreadable-requires c κs = search needs
-
 returns : tie.Need-returns
 unfolding txerrOf
 returns c =
@@ -62,18 +26,5 @@ returns-2 c =
 pub txerr-spec : {M : Type 1} → statement M
 txerr-spec =
     tie.close
-    (tie.spec
-    word-requires
-    sub-kind-of
-    part-kind-of-start
-    part-kind-of-end
-    kind-of-requires
-    enum-known-kind
-    txerr-counted-requires
-    enum-told
-    sub-unreadable
-    part-unreadable-start
-    part-unreadable-end
-    unreadable-requires
-    returns
-    returns-2)
+    (tie.spec (search needs) (search needs) (search needs) (search needs) (search needs) (search needs) (search needs) (search needs)
+    (search needs) (search needs) (search needs) (search needs) returns returns-2)

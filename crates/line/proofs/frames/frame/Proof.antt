@@ -11,48 +11,6 @@ use borrow.Author.Needs.{needs}
 use Rattle.line.proofs.frames.frame.Statement.{statement}
 use Rattle.line.proofs.frames.frame.Tie as tie
 
-word-requires : tie.Need-word-requires
-word-requires c κs = search needs
-
-sub-is-number : tie.Need-sub-is-number
-sub-is-number c = search needs
-
-part-is-number-start : tie.Need-part-is-number-start
-part-is-number-start c = search needs
-
-part-is-number-end : tie.Need-part-is-number-end
-part-is-number-end c = search needs
-
-is-number-requires : tie.Need-is-number-requires
-is-number-requires c κs = search needs
-
-sub-identifier : tie.Need-sub-identifier
-sub-identifier c = search needs
-
-part-identifier-start : tie.Need-part-identifier-start
-part-identifier-start c = search needs
-
-part-identifier-end : tie.Need-part-identifier-end
-part-identifier-end c = search needs
-
-identifier-requires : tie.Need-identifier-requires
-identifier-requires c κs = search needs
-
-frame-kind-requires : tie.Need-frame-kind-requires
-frame-kind-requires c κs = search needs
-
-sub-unreadable : tie.Need-sub-unreadable
-sub-unreadable c = search needs
-
-part-unreadable-start : tie.Need-part-unreadable-start
-part-unreadable-start c = search needs
-
-part-unreadable-end : tie.Need-part-unreadable-end
-part-unreadable-end c = search needs
-
-unreadable-requires : tie.Need-unreadable-requires
-unreadable-requires c κs = search needs
-
 returns : tie.Need-returns
 unfolding frameOf
 returns c =
@@ -78,20 +36,5 @@ returns-2 c =
 pub frame-spec : {M : Type 1} → statement M
 frame-spec =
     tie.close
-    (tie.spec
-    word-requires
-    sub-is-number
-    part-is-number-start
-    part-is-number-end
-    is-number-requires
-    sub-identifier
-    part-identifier-start
-    part-identifier-end
-    identifier-requires
-    frame-kind-requires
-    sub-unreadable
-    part-unreadable-start
-    part-unreadable-end
-    unreadable-requires
-    returns
-    returns-2)
+    (tie.spec (search needs) (search needs) (search needs) (search needs) (search needs) (search needs) (search needs) (search needs)
+    (search needs) (search needs) (search needs) (search needs) (search needs) (search needs) returns returns-2)

@@ -11,48 +11,6 @@ use borrow.Author.Needs.{needs}
 use Rattle.line.proofs.frames.frame_code.Statement.{statement}
 use Rattle.line.proofs.frames.frame_code.Tie as tie
 
-word-requires : tie.Need-word-requires
-word-requires c κs = search needs
-
-sub-is-number : tie.Need-sub-is-number
-sub-is-number c = search needs
-
-part-is-number-start : tie.Need-part-is-number-start
-part-is-number-start c = search needs
-
-part-is-number-end : tie.Need-part-is-number-end
-part-is-number-end c = search needs
-
-is-number-requires : tie.Need-is-number-requires
-is-number-requires c κs = search needs
-
-sub-code : tie.Need-sub-code
-sub-code c = search needs
-
-part-code-start : tie.Need-part-code-start
-part-code-start c = search needs
-
-part-code-end : tie.Need-part-code-end
-part-code-end c = search needs
-
-code-requires : tie.Need-code-requires
-code-requires c κs = search needs
-
-frame-ack-requires : tie.Need-frame-ack-requires
-frame-ack-requires c κs = search needs
-
-sub-unreadable : tie.Need-sub-unreadable
-sub-unreadable c = search needs
-
-part-unreadable-start : tie.Need-part-unreadable-start
-part-unreadable-start c = search needs
-
-part-unreadable-end : tie.Need-part-unreadable-end
-part-unreadable-end c = search needs
-
-unreadable-requires : tie.Need-unreadable-requires
-unreadable-requires c κs = search needs
-
 returns : tie.Need-returns
 unfolding frameCode
 returns c =
@@ -78,20 +36,5 @@ returns-2 c =
 pub frame-code-spec : {M : Type 1} → statement M
 frame-code-spec =
     tie.close
-    (tie.spec
-    word-requires
-    sub-is-number
-    part-is-number-start
-    part-is-number-end
-    is-number-requires
-    sub-code
-    part-code-start
-    part-code-end
-    code-requires
-    frame-ack-requires
-    sub-unreadable
-    part-unreadable-start
-    part-unreadable-end
-    unreadable-requires
-    returns
-    returns-2)
+    (tie.spec (search needs) (search needs) (search needs) (search needs) (search needs) (search needs) (search needs) (search needs)
+    (search needs) (search needs) (search needs) (search needs) (search needs) (search needs) returns returns-2)

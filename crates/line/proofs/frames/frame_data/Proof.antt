@@ -8,12 +8,6 @@ use borrow.Author.Needs.{needs}
 use Rattle.line.proofs.frames.frame_data.Statement.{statement}
 use Rattle.line.proofs.frames.frame_data.Tie as tie
 
-gather-requires : tie.Need-gather-requires
-gather-requires c κs = search needs
-
-carrying-requires : tie.Need-carrying-requires
-carrying-requires c κs = search needs
-
 returns : tie.Need-returns
 unfolding frameData
 returns c =
@@ -22,4 +16,4 @@ returns c =
     c .carrying .ensures ∙ data-carried (λ n. Happens (GoodFrame (a .header) (a .acked) n)) _ (g .result) (g .ensures)
 
 pub frame-data-spec : {M : Type 1} → statement M
-frame-data-spec = tie.close (tie.spec gather-requires carrying-requires returns)
+frame-data-spec = tie.close (tie.spec (search needs) (search needs) returns)

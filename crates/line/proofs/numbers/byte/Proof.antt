@@ -9,9 +9,6 @@ use native.Mathlib.Omega.{arith}
 use Rattle.line.proofs.numbers.byte.Statement.{statement}
 use Rattle.line.proofs.numbers.byte.Tie as tie
 
-capped-requires : tie.Need-capped-requires
-capped-requires c κs = search needs
-
 cast-result : tie.Need-cast-result
 cast-result c =
     let w = c .before .before .args .word .now in
@@ -25,4 +22,4 @@ returns c =
     c .capped .ensures ∙ min-eq-left (omega arith)
 
 pub byte-spec : {M : Type 1} → statement M
-byte-spec = tie.close (tie.spec capped-requires cast-result returns)
+byte-spec = tie.close (tie.spec (search needs) cast-result returns)

@@ -23,23 +23,8 @@ loop-holds c = (search needs, search needs, refl)
 mul-cap : tie.Need-mul-cap Inv-loop μ-loop
 mul-cap c = omega (arith, mul-le-mul (c .before .loop .inv .1) (c .before .before .before .pre .1))
 
-shared-slice-read-digit : tie.Need-shared-slice-read-digit Inv-loop μ-loop
-shared-slice-read-digit c = search needs
-
-digit-requires : tie.Need-digit-requires Inv-loop μ-loop
-digit-requires c κs = search needs
-
 add-cap : tie.Need-add-cap Inv-loop μ-loop
 add-cap c = omega (arith, mul-le-mul (c .before .before .before .loop .inv .1) (c .before .before .before .before .before .pre .1))
-
-cap-requires : tie.Need-cap-requires Inv-loop μ-loop
-cap-requires c κs = search needs
-
-add-i : tie.Need-add-i Inv-loop μ-loop
-add-i c = search needs
-
-loop-less : tie.Need-loop-less Inv-loop μ-loop
-loop-less c = search needs
 
 loop-again : tie.Need-loop-again Inv-loop μ-loop
 loop-again c =
@@ -65,16 +50,5 @@ returns c =
 pub capped-spec : {M : Type 1} → statement M
 capped-spec =
     tie.close
-    (tie.spec
-    Inv-loop
-    μ-loop
-    loop-holds
-    mul-cap
-    shared-slice-read-digit
-    digit-requires
-    add-cap
-    cap-requires
-    add-i
-    loop-less
-    loop-again
-    returns)
+    (tie.spec Inv-loop μ-loop loop-holds mul-cap (search needs) (search needs) add-cap (search needs) (search needs) (search needs)
+    loop-again returns)

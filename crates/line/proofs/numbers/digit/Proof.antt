@@ -6,21 +6,6 @@ use native.Mathlib.Omega.{arith}
 use Rattle.line.proofs.numbers.digit.Statement.{statement}
 use Rattle.line.proofs.numbers.digit.Tie as tie
 
-cast-result : tie.Need-cast-result
-cast-result c = search needs
-
-add-result : tie.Need-add-result
-add-result c = search needs
-
-cast-result-2 : tie.Need-cast-result-2
-cast-result-2 c = search needs
-
-add-result-2 : tie.Need-add-result-2
-add-result-2 c = search needs
-
-cast-result-3 : tie.Need-cast-result-3
-cast-result-3 c = search needs
-
 returns : tie.Need-returns
 unfolding digitOf
 returns c =
@@ -66,16 +51,5 @@ returns-7 c =
 pub digit-spec : {M : Type 1} → statement M
 digit-spec =
     tie.close
-    (tie.spec
-    cast-result
-    add-result
-    cast-result-2
-    add-result-2
-    cast-result-3
-    returns
-    returns-2
-    returns-3
-    returns-4
-    returns-5
-    returns-6
-    returns-7)
+    (tie.spec (search needs) (search needs) (search needs) (search needs) (search needs) returns returns-2 returns-3 returns-4 returns-5
+    returns-6 returns-7)

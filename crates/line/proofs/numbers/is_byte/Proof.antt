@@ -6,9 +6,6 @@ use borrow.Author.Needs.{needs}
 use Rattle.line.proofs.numbers.is_byte.Statement.{statement}
 use Rattle.line.proofs.numbers.is_byte.Tie as tie
 
-is-number-requires : tie.Need-is-number-requires
-is-number-requires c κs = search needs
-
 returns : tie.Need-returns
 unfolding isByte
 returns c = rw (eq-eqb (length (c .before .before .before .args .word .now)) 2 (c .before .if1 .taken)) (c .is-number .ensures)
@@ -18,4 +15,4 @@ unfolding isByte
 returns-2 c = rw (ne-eqb (length (c .before .before .args .word .now)) 2 (c .if1 .left))
 
 pub is-byte-spec : {M : Type 1} → statement M
-is-byte-spec = tie.close (tie.spec is-number-requires returns returns-2)
+is-byte-spec = tie.close (tie.spec (search needs) returns returns-2)

@@ -89,60 +89,6 @@ word-9 c = word-8 (else-8 c)
 not-9 : (c : tie.Else9) → same (word-9 c) (ascii "pins") ≡ false
 not-9 c = sym (c .before .is9 .ensures) ∙ c .if9 .left
 
-slice-aggregate-is : tie.Need-slice-aggregate-is
-slice-aggregate-is c = search needs
-
-is-requires : tie.Need-is-requires
-is-requires c κs = search needs
-
-slice-aggregate-is-2 : tie.Need-slice-aggregate-is-2
-slice-aggregate-is-2 c = search needs
-
-is-requires-2 : tie.Need-is-requires-2
-is-requires-2 c κs = search needs
-
-slice-aggregate-is-3 : tie.Need-slice-aggregate-is-3
-slice-aggregate-is-3 c = search needs
-
-is-requires-3 : tie.Need-is-requires-3
-is-requires-3 c κs = search needs
-
-slice-aggregate-is-4 : tie.Need-slice-aggregate-is-4
-slice-aggregate-is-4 c = search needs
-
-is-requires-4 : tie.Need-is-requires-4
-is-requires-4 c κs = search needs
-
-slice-aggregate-is-5 : tie.Need-slice-aggregate-is-5
-slice-aggregate-is-5 c = search needs
-
-is-requires-5 : tie.Need-is-requires-5
-is-requires-5 c κs = search needs
-
-slice-aggregate-is-6 : tie.Need-slice-aggregate-is-6
-slice-aggregate-is-6 c = search needs
-
-is-requires-6 : tie.Need-is-requires-6
-is-requires-6 c κs = search needs
-
-slice-aggregate-is-7 : tie.Need-slice-aggregate-is-7
-slice-aggregate-is-7 c = search needs
-
-is-requires-7 : tie.Need-is-requires-7
-is-requires-7 c κs = search needs
-
-slice-aggregate-is-8 : tie.Need-slice-aggregate-is-8
-slice-aggregate-is-8 c = search needs
-
-is-requires-8 : tie.Need-is-requires-8
-is-requires-8 c κs = search needs
-
-slice-aggregate-is-9 : tie.Need-slice-aggregate-is-9
-slice-aggregate-is-9 c = search needs
-
-is-requires-9 : tie.Need-is-requires-9
-is-requires-9 c κs = search needs
-
 returns : tie.Need-returns
 unfolding aloneOf
 returns c = pick-yes _ _ _ _ _ (sym (c .before .is .ensures) ∙ c .if1 .taken) refl
@@ -239,32 +185,6 @@ returns-10 c =
 pub alone-of-spec : {M : Type 1} → statement M
 alone-of-spec =
     tie.close
-    (tie.spec
-    slice-aggregate-is
-    is-requires
-    slice-aggregate-is-2
-    is-requires-2
-    slice-aggregate-is-3
-    is-requires-3
-    slice-aggregate-is-4
-    is-requires-4
-    slice-aggregate-is-5
-    is-requires-5
-    slice-aggregate-is-6
-    is-requires-6
-    slice-aggregate-is-7
-    is-requires-7
-    slice-aggregate-is-8
-    is-requires-8
-    slice-aggregate-is-9
-    is-requires-9
-    returns
-    returns-2
-    returns-3
-    returns-4
-    returns-5
-    returns-6
-    returns-7
-    returns-8
-    returns-9
-    returns-10)
+    (tie.spec (search needs) (search needs) (search needs) (search needs) (search needs) (search needs) (search needs) (search needs)
+    (search needs) (search needs) (search needs) (search needs) (search needs) (search needs) (search needs) (search needs) (search needs)
+    (search needs) returns returns-2 returns-3 returns-4 returns-5 returns-6 returns-7 returns-8 returns-9 returns-10)

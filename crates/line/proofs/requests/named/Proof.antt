@@ -73,72 +73,12 @@ word-7 c = word-6 (else-6 c)
 not-7 : (c : tie.Else7) → same (word-7 c) (ascii "txen") ≡ false
 not-7 c = sym (c .before .is6 .ensures) ∙ c .if7 .left
 
-slice-aggregate-is : tie.Need-slice-aggregate-is
-slice-aggregate-is c = search needs
-
-is-requires : tie.Need-is-requires
-is-requires c κs = search needs
-
-transfer-requires : tie.Need-transfer-requires
-transfer-requires c κs = search needs
-
-is-sized-requires : tie.Need-is-sized-requires
-is-sized-requires c κs = search needs
-
 sized-requires : tie.Need-sized-requires
 sized-requires c κs = (
   begins-long (c .before .before .before .before .before .before .before .args .word .now) (ascii "spi/")
       (sym (c .before .is-sized .ensures) ∙ c .if2 .taken),
   search needs,
 )
-
-slice-aggregate-is-2 : tie.Need-slice-aggregate-is-2
-slice-aggregate-is-2 c = search needs
-
-is-requires-2 : tie.Need-is-requires-2
-is-requires-2 c κs = search needs
-
-frame-requires : tie.Need-frame-requires
-frame-requires c κs = search needs
-
-slice-aggregate-is-3 : tie.Need-slice-aggregate-is-3
-slice-aggregate-is-3 c = search needs
-
-is-requires-3 : tie.Need-is-requires-3
-is-requires-3 c κs = search needs
-
-rxerr-requires : tie.Need-rxerr-requires
-rxerr-requires c κs = search needs
-
-slice-aggregate-is-4 : tie.Need-slice-aggregate-is-4
-slice-aggregate-is-4 c = search needs
-
-is-requires-4 : tie.Need-is-requires-4
-is-requires-4 c κs = search needs
-
-txerr-requires : tie.Need-txerr-requires
-txerr-requires c κs = search needs
-
-slice-aggregate-is-5 : tie.Need-slice-aggregate-is-5
-slice-aggregate-is-5 c = search needs
-
-is-requires-5 : tie.Need-is-requires-5
-is-requires-5 c κs = search needs
-
-ticks-requires : tie.Need-ticks-requires
-ticks-requires c κs = search needs
-
-slice-aggregate-is-6 : tie.Need-slice-aggregate-is-6
-slice-aggregate-is-6 c = search needs
-
-is-requires-6 : tie.Need-is-requires-6
-is-requires-6 c κs = search needs
-
-txen-requires : tie.Need-txen-requires
-txen-requires c κs = search needs
-
-lone-requires : tie.Need-lone-requires
-lone-requires c κs = search needs
 
 returns : tie.Need-returns
 unfolding namedOf
@@ -209,33 +149,7 @@ returns-8 c =
 pub named-spec : {M : Type 1} → statement M
 named-spec =
     tie.close
-    (tie.spec
-    slice-aggregate-is
-    is-requires
-    transfer-requires
-    is-sized-requires
-    sized-requires
-    slice-aggregate-is-2
-    is-requires-2
-    frame-requires
-    slice-aggregate-is-3
-    is-requires-3
-    rxerr-requires
-    slice-aggregate-is-4
-    is-requires-4
-    txerr-requires
-    slice-aggregate-is-5
-    is-requires-5
-    ticks-requires
-    slice-aggregate-is-6
-    is-requires-6
-    txen-requires
-    lone-requires
-    returns
-    returns-2
-    returns-3
-    returns-4
-    returns-5
-    returns-6
-    returns-7
+    (tie.spec (search needs) (search needs) (search needs) (search needs) sized-requires (search needs) (search needs) (search needs)
+    (search needs) (search needs) (search needs) (search needs) (search needs) (search needs) (search needs) (search needs) (search needs)
+    (search needs) (search needs) (search needs) (search needs) returns returns-2 returns-3 returns-4 returns-5 returns-6 returns-7
     returns-8)

@@ -13,48 +13,6 @@ use borrow.Author.Needs.{needs}
 use Rattle.line.proofs.requests.ticks.Statement.{statement}
 use Rattle.line.proofs.requests.ticks.Tie as tie
 
-word-requires : tie.Need-word-requires
-word-requires c κs = search needs
-
-sub-is-number : tie.Need-sub-is-number
-sub-is-number c = search needs
-
-part-is-number-start : tie.Need-part-is-number-start
-part-is-number-start c = search needs
-
-part-is-number-end : tie.Need-part-is-number-end
-part-is-number-end c = search needs
-
-is-number-requires : tie.Need-is-number-requires
-is-number-requires c κs = search needs
-
-sub-wrapped : tie.Need-sub-wrapped
-sub-wrapped c = search needs
-
-part-wrapped-start : tie.Need-part-wrapped-start
-part-wrapped-start c = search needs
-
-part-wrapped-end : tie.Need-part-wrapped-end
-part-wrapped-end c = search needs
-
-wrapped-requires : tie.Need-wrapped-requires
-wrapped-requires c κs = search needs
-
-ending-requires : tie.Need-ending-requires
-ending-requires c κs = search needs
-
-sub-unreadable : tie.Need-sub-unreadable
-sub-unreadable c = search needs
-
-part-unreadable-start : tie.Need-part-unreadable-start
-part-unreadable-start c = search needs
-
-part-unreadable-end : tie.Need-part-unreadable-end
-part-unreadable-end c = search needs
-
-unreadable-requires : tie.Need-unreadable-requires
-unreadable-requires c κs = search needs
-
 returns : tie.Need-returns
 unfolding ticksOf
 returns c =
@@ -80,20 +38,5 @@ returns-2 c =
 pub ticks-spec : {M : Type 1} → statement M
 ticks-spec =
     tie.close
-    (tie.spec
-    word-requires
-    sub-is-number
-    part-is-number-start
-    part-is-number-end
-    is-number-requires
-    sub-wrapped
-    part-wrapped-start
-    part-wrapped-end
-    wrapped-requires
-    ending-requires
-    sub-unreadable
-    part-unreadable-start
-    part-unreadable-end
-    unreadable-requires
-    returns
-    returns-2)
+    (tie.spec (search needs) (search needs) (search needs) (search needs) (search needs) (search needs) (search needs) (search needs)
+    (search needs) (search needs) (search needs) (search needs) (search needs) (search needs) returns returns-2)

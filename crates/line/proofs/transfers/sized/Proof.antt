@@ -23,42 +23,6 @@ judged c = c .is-number .ensures ∙ rw (part-to-end (c .before .before .before 
 meant : (c : tie.After-capped) → c .capped .result ≡ min (valueOf 10 (digits (c .before .before .before))) most
 meant c = c .capped .ensures ∙ rw (part-to-end (c .before .before .before .before .before .before .before .args .word .now) 4)
 
-sub-is-number : tie.Need-sub-is-number
-sub-is-number c = search needs
-
-part-is-number-start : tie.Need-part-is-number-start
-part-is-number-start c = search needs
-
-part-is-number-end : tie.Need-part-is-number-end
-part-is-number-end c = search needs
-
-is-number-requires : tie.Need-is-number-requires
-is-number-requires c κs = search needs
-
-sub-capped : tie.Need-sub-capped
-sub-capped c = search needs
-
-part-capped-start : tie.Need-part-capped-start
-part-capped-start c = search needs
-
-part-capped-end : tie.Need-part-capped-end
-part-capped-end c = search needs
-
-capped-requires : tie.Need-capped-requires
-capped-requires c κs = search needs
-
-cast-transfer : tie.Need-cast-transfer
-cast-transfer c = search needs
-
-transfer-requires : tie.Need-transfer-requires
-transfer-requires c κs = search needs
-
-unreadable-requires : tie.Need-unreadable-requires
-unreadable-requires c κs = search needs
-
-unreadable-requires-2 : tie.Need-unreadable-requires-2
-unreadable-requires-2 c κs = search needs
-
 returns : tie.Need-returns
 unfolding sizedOf
 returns c =
@@ -84,19 +48,5 @@ returns-3 c = rw (sym (judged (c .before .before)) ∙ c .before .if1 .left) (c 
 pub sized-spec : {M : Type 1} → statement M
 sized-spec =
     tie.close
-    (tie.spec
-    sub-is-number
-    part-is-number-start
-    part-is-number-end
-    is-number-requires
-    sub-capped
-    part-capped-start
-    part-capped-end
-    capped-requires
-    cast-transfer
-    transfer-requires
-    unreadable-requires
-    unreadable-requires-2
-    returns
-    returns-2
-    returns-3)
+    (tie.spec (search needs) (search needs) (search needs) (search needs) (search needs) (search needs) (search needs) (search needs)
+    (search needs) (search needs) (search needs) (search needs) returns returns-2 returns-3)

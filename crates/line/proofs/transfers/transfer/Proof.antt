@@ -7,12 +7,6 @@ use borrow.Author.Needs.{needs}
 use Rattle.line.proofs.transfers.transfer.Statement.{statement}
 use Rattle.line.proofs.transfers.transfer.Tie as tie
 
-gather-requires : tie.Need-gather-requires
-gather-requires c κs = search needs
-
-carrying-requires : tie.Need-carrying-requires
-carrying-requires c κs = search needs
-
 returns : tie.Need-returns
 unfolding transferOf
 returns c =
@@ -21,4 +15,4 @@ returns c =
     c .carrying .ensures ∙ data-carried (λ n. Transfer (a .room)) _ (g .result) (g .ensures)
 
 pub transfer-spec : {M : Type 1} → statement M
-transfer-spec = tie.close (tie.spec gather-requires carrying-requires returns)
+transfer-spec = tie.close (tie.spec (search needs) (search needs) returns)

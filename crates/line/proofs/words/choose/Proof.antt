@@ -5,12 +5,6 @@ use borrow.Author.Needs.{needs}
 use Rattle.line.proofs.words.choose.Statement.{statement}
 use Rattle.line.proofs.words.choose.Tie as tie
 
-is-requires : tie.Need-is-requires
-is-requires c κs = search needs
-
-is-requires-2 : tie.Need-is-requires-2
-is-requires-2 c κs = search needs
-
 returns : tie.Need-returns
 unfolding choiceOf
 returns c = rw (sym (c .before .is .ensures) ∙ c .if1 .taken)
@@ -24,4 +18,4 @@ unfolding choiceOf
 returns-3 c = rw (sym (c .before .before .before .is .ensures) ∙ c .before .before .if1 .left, sym (c .before .is2 .ensures) ∙ c .if2 .left)
 
 pub choose-spec : {M : Type 1} → statement M
-choose-spec = tie.close (tie.spec is-requires is-requires-2 returns returns-2 returns-3)
+choose-spec = tie.close (tie.spec (search needs) (search needs) returns returns-2 returns-3)

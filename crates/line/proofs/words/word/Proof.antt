@@ -8,9 +8,6 @@ use native.Mathlib.Omega.{arith}
 use Rattle.line.proofs.words.word.Statement.{statement}
 use Rattle.line.proofs.words.word.Tie as tie
 
-start-requires : tie.Need-start-requires
-start-requires c κs = search needs
-
 end-requires : tie.Need-end-requires
 end-requires c κs =
     let a = c .before .before .args in
@@ -22,4 +19,4 @@ returns c =
     found (a .s .now) (a .at) (c .before .start .result) (c .end .result) (c .before .before .before .pre) (c .before .start .ensures) (c .end .ensures)
 
 pub word-spec : {M : Type 1} → statement M
-word-spec = tie.close (tie.spec start-requires end-requires returns)
+word-spec = tie.close (tie.spec (search needs) end-requires returns)
