@@ -3,6 +3,10 @@ use Rattle.levels.specs.Levels.{txerrp}
 use Rattle.levels.proofs.txerrp.Statement.{statement}
 use Rattle.levels.proofs.txerrp.Tie as tie
 
+returns : tie.Need-returns
+unfolding txerrp
+returns c = rw (c .if1 .taken)
+
 pub txerrp-spec : {M : Type 1} → statement M
 unfolding txerrp
-txerrp-spec = tie.close (tie.spec (λ c. rw (c .if1 .taken)) (λ c. rw (c .before .if1 .left)))
+txerrp-spec = tie.close (tie.spec returns (λ c. rw (c .before .if1 .left)))

@@ -5,6 +5,10 @@ use borrow.Author.Needs.{needs}
 use Rattle.refused.proofs.outside_set_up.Statement.{statement}
 use Rattle.refused.proofs.outside_set_up.Tie as tie
 
+returns : tie.Need-returns
+unfolding outsideSetUp
+returns c = search (picks, judges)
+
 pub outside-set-up-spec : {M : Type 1} → statement M
 unfolding outsideSetUp
-outside-set-up-spec = tie.close (tie.spec (search needs) (λ c. search (picks, judges)) (λ c. search (picks, judges)))
+outside-set-up-spec = tie.close (tie.spec (search needs) returns (λ c. search (picks, judges)))

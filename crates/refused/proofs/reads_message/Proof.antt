@@ -8,11 +8,11 @@ returns-4 : tie.Need-returns-4
 unfolding readsMessage
 returns-4 c = rw (c .match .keys4)
 
+returns-2 : tie.Need-returns-2
+unfolding readsMessage
+returns-2 c = rw (c .match .keys2)
+
 pub reads-message-spec : {M : Type 1} → statement M
 unfolding readsMessage
 reads-message-spec =
-    tie.close
-    (tie.spec (λ c. search (picks, judges))
-    (λ c. rw (c .match .keys2))
-    (λ c. rw (c .match .keys3))
-    returns-4 (λ c. search (picks, judges)))
+    tie.close (tie.spec (λ c. search (picks, judges)) returns-2 (λ c. rw (c .match .keys3)) returns-4 (λ c. search (picks, judges)))

@@ -8,11 +8,15 @@ returns-4 : tie.Need-returns-4
 unfolding setsUp
 returns-4 c = rw (c .match .keys4)
 
+returns : tie.Need-returns
+unfolding setsUp
+returns c = search (picks, judges)
+
+returns-3 : tie.Need-returns-3
+unfolding setsUp
+returns-3 c = rw (c .match .keys3)
+
 pub sets-up-spec : {M : Type 1} → statement M
 unfolding setsUp
 sets-up-spec =
-    tie.close
-    (tie.spec (λ c. search (picks, judges))
-    (λ c. rw (c .match .keys2))
-    (λ c. rw (c .match .keys3))
-    returns-4 (λ c. search (picks, judges)))
+    tie.close (tie.spec returns (λ c. rw (c .match .keys2)) returns-3 returns-4 (λ c. search (picks, judges)))

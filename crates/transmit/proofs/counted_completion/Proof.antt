@@ -5,6 +5,10 @@ use borrow.Author.Needs.{needs}
 use Rattle.transmit.proofs.counted_completion.Statement.{statement}
 use Rattle.transmit.proofs.counted_completion.Tie as tie
 
+returns : tie.Need-returns
+unfolding countedCompletion
+returns c = search (picks, judges)
+
 pub counted-completion-spec : {M : Type 1} → statement M
 unfolding countedCompletion
-counted-completion-spec = tie.close (tie.spec (search needs) (λ c. search (picks, judges)) (λ c. search (picks, judges)))
+counted-completion-spec = tie.close (tie.spec (search needs) returns (λ c. search (picks, judges)))
