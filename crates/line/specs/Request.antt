@@ -26,7 +26,7 @@ use Rattle.line.specs.declared.errors.Kind.{Kind}
 use Rattle.line.specs.declared.errors.Kind.the-variants.{Is, Other}
 use Rattle.line.specs.declared.requests.Alone.{Alone}
 use Rattle.line.specs.declared.requests.Alone.the-variants.{Asks, Unknown}
-use Rattle.line.specs.Words.{uncommented, wordsOf, first, rest, same, choiceOf}
+use Rattle.line.specs.Words.{uncommented, wordsOf, first, rest, same, choiceOf, amongWords}
 use Rattle.line.specs.Numbers.{isNumber, valueOf, most}
 use Rattle.line.specs.Data.{areBytes, firstOther, kept, filled, head}
 use Rattle.line.specs.Text.{ascii}
@@ -107,14 +107,17 @@ frameOf ws =
 
 -- ---- `rxerr KIND`, `txerr KIND counted|exempt`
 
+abbrev pub kinds : List (List ℕ × Kind)
+kinds =
+    (ascii "stuff", Is Stuff)
+    ∷ (ascii "ack", Is Ack)
+    ∷ (ascii "crc", Is Crc)
+    ∷ (ascii "form", Is Form)
+    ∷ (ascii "bit", Is Bit)
+    ∷ []
+
 unfoldable pub kindOf : List ℕ → Kind
-kindOf w =
-    pick (same w (ascii "stuff")) (Is Stuff)
-    (pick (same w (ascii "ack")) (Is Ack)
-    (pick (same w (ascii "crc")) (Is Crc)
-    (pick (same w (ascii "form")) (Is Form)
-    (pick (same w (ascii "bit")) (Is Bit)
-    Other))))
+kindOf w = amongWords w kinds Other
 
 abbrev pub onKind : Kind → List ℕ → (ErrorKind → Line) → Line
 onKind (Is k) w request = request k
@@ -147,18 +150,21 @@ txenOf ws =
 -- ---- the request's own word, w, and what follows it
 
 -- the requests of one word
+abbrev pub alones : List (List ℕ × Alone)
+alones =
+    (ascii "dominant", Asks (Happens DominantBit))
+    ∷ (ascii "begin", Asks (Happens Begun))
+    ∷ (ascii "done", Asks (Happens Completed))
+    ∷ (ascii "lost", Asks (Happens ArbitrationLost))
+    ∷ (ascii "recessive", Asks (Happens ElevenRecessive))
+    ∷ (ascii "quiet", Asks (Happens BusQuiet))
+    ∷ (ascii "activity", Asks (Happens BusActivity))
+    ∷ (ascii "mr", Asks (Happens MasterReset))
+    ∷ (ascii "pins", Asks Pins)
+    ∷ []
+
 unfoldable pub aloneOf : List ℕ → Alone
-aloneOf w =
-    pick (same w (ascii "dominant")) (Asks (Happens DominantBit))
-    (pick (same w (ascii "begin")) (Asks (Happens Begun))
-    (pick (same w (ascii "done")) (Asks (Happens Completed))
-    (pick (same w (ascii "lost")) (Asks (Happens ArbitrationLost))
-    (pick (same w (ascii "recessive")) (Asks (Happens ElevenRecessive))
-    (pick (same w (ascii "quiet")) (Asks (Happens BusQuiet))
-    (pick (same w (ascii "activity")) (Asks (Happens BusActivity))
-    (pick (same w (ascii "mr")) (Asks (Happens MasterReset))
-    (pick (same w (ascii "pins")) (Asks Pins)
-    Unknown))))))))
+aloneOf w = amongWords w alones Unknown
 
 abbrev pub onAlone : Alone → List ℕ → List (List ℕ) → Line
 onAlone (Asks a) w ws = ending a ws
@@ -167,16 +173,21 @@ onAlone Unknown w ws = unreadable Request w
 unfoldable pub loneOf : List ℕ → List (List ℕ) → Line
 loneOf w ws = onAlone (aloneOf w) w ws
 
+-- the requests of a word and what it needs
+abbrev pub longer : List (List ℕ) → List (List ℕ × Line)
+longer ws =
+    (ascii "frame", frameOf ws)
+    ∷ (ascii "rxerr", rxerrOf ws)
+    ∷ (ascii "txerr", txerrOf ws)
+    ∷ (ascii "ticks", ticksOf ws)
+    ∷ (ascii "txen", txenOf ws)
+    ∷ []
+
 unfoldable pub namedOf : List ℕ → List (List ℕ) → Line
 namedOf w ws =
     pick (same w (ascii "spi")) (transferOf 16 ws)
     (pick (same (take 4 w) (ascii "spi/")) (sizedOf w ws)
-    (pick (same w (ascii "frame")) (frameOf ws)
-    (pick (same w (ascii "rxerr")) (rxerrOf ws)
-    (pick (same w (ascii "txerr")) (txerrOf ws)
-    (pick (same w (ascii "ticks")) (ticksOf ws)
-    (pick (same w (ascii "txen")) (txenOf ws)
-    (loneOf w ws)))))))
+    (amongWords w (longer ws) (loneOf w ws)))
 
 unfoldable pub requestOf : List (List ℕ) → Line
 requestOf [] = plain Nothing

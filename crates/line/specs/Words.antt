@@ -50,6 +50,11 @@ same (a ∷ s) (b ∷ t) = eqb a b && same s t
 unfoldable pub choiceOf : List ℕ → List ℕ → List ℕ → Choice
 choiceOf w one other = pick (same w one) Yes (pick (same w other) No Neither)
 
+-- A table of words: what is said of the first that w is, or what holds otherwise.
+abbrev pub amongWords : {A : Type 0} → List ℕ → List (List ℕ × A) → A → A
+amongWords w [] other = other
+amongWords w (c ∷ cases) other = pick (same w (c .0)) (c .1) (amongWords w cases other)
+
 -- ---- for the reader's own steps
 
 -- how many bytes of a kind a line begins with
