@@ -76,7 +76,7 @@ fn event_of(r: &[u8]) -> Event {
         10 => Event::BusActivity,
         11 => Event::Ticks(number(r, 4) as u64),
         12 => Event::TxenPin(at(r, 1) == 1),
-        13 => Event::MasterReset,
+        13 => Event::MrPin,
         _ => Event::Unknown,
     }
 }

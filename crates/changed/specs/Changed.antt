@@ -23,7 +23,7 @@ use Rattle.events.specs.declared.ErrorKind.the-variants.{Stuff, Ack, Crc, Form,
 use Rattle.events.specs.declared.Event.{Event}
 use Rattle.events.specs.declared.Event.the-variants.{GoodFrame, ReceiveError, DominantBit, TransmitError, Begun, Completed}
 use Rattle.events.specs.declared.Event.the-variants.{ArbitrationLost, ElevenRecessive, BusQuiet, BusActivity, Ticks, TxenPin}
-use Rattle.events.specs.declared.Event.the-variants.{MasterReset, Unknown}
+use Rattle.events.specs.declared.Event.the-variants.{MrPin, Unknown}
 
 -- 000, ERR: STUFERR is bit 0, ACKERR 1, CRCERR 2, FRMERR 3, BITERR 4
 unfoldable pub errBit : ErrorKind → ℕ
@@ -105,7 +105,7 @@ arrival d BusQuiet bytes what = d
 arrival d BusActivity bytes what = d
 arrival d (Ticks count) bytes what = d
 arrival d (TxenPin level) bytes what = d
-arrival d MasterReset bytes what = d
+arrival d MrPin bytes what = d
 arrival d Unknown bytes what = d
 
 -- an event that is done; a good frame's answer is an arrival
@@ -122,5 +122,5 @@ after d BusQuiet = busQuiet d
 after d BusActivity = busActivity d
 after d (Ticks count) = ticked d count
 after d (TxenPin level) = pinSet d level
-after d MasterReset = reset d
+after d MrPin = reset d
 after d Unknown = d

@@ -205,7 +205,7 @@ pub fn arrival(d: Device, e: Event, payload: [u8; 8], what: Arrival) -> Device
         Event::BusActivity => d,
         Event::Ticks(_) => d,
         Event::TxenPin(_) => d,
-        Event::MasterReset => d,
+        Event::MrPin => d,
         Event::Unknown => d,
     }
 }
@@ -226,7 +226,7 @@ pub fn after(d: Device, e: Event) -> Device
         Event::BusActivity => modes::bus_activity(d),
         Event::Ticks(count) => ticked(d, count),
         Event::TxenPin(level) => pin_set(d, level),
-        Event::MasterReset => flags::reset(d),
+        Event::MrPin => flags::reset(d),
         Event::GoodFrame(_, _, _) => d,
         Event::Unknown => d,
     }

@@ -27,7 +27,7 @@ pub enum Event {
     Ticks(u64),
     TxenPin(bool),
     // The MR pin: one reset.
-    MasterReset,
+    MrPin,
     // An event that came in as numbers, of no kind that there is.
     Unknown,
 }

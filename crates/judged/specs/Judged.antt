@@ -18,7 +18,7 @@ use Rattle.judged.specs.declared.Answer.the-variants.{Done, Arrived}
 use Rattle.events.specs.declared.Event.{Event}
 use Rattle.events.specs.declared.Event.the-variants.{GoodFrame, ReceiveError, DominantBit, TransmitError, Begun, Completed}
 use Rattle.events.specs.declared.Event.the-variants.{ArbitrationLost, ElevenRecessive, BusQuiet, BusActivity, Ticks, TxenPin}
-use Rattle.events.specs.declared.Event.the-variants.{MasterReset, Unknown}
+use Rattle.events.specs.declared.Event.the-variants.{MrPin, Unknown}
 
 -- the modes that hear nothing
 unfoldable pub quietMode : ℕ → Bool
@@ -49,7 +49,7 @@ impossible d BusQuiet = false
 impossible d BusActivity = false
 impossible d (Ticks count) = false
 impossible d (TxenPin level) = false
-impossible d MasterReset = false
+impossible d MrPin = false
 impossible d Unknown = true
 
 -- A1: "the mode doesn't take bus frames (initialization, sleep, loopback)"
@@ -89,5 +89,5 @@ said d BusQuiet bytes = Done
 said d BusActivity bytes = Done
 said d (Ticks count) bytes = Done
 said d (TxenPin level) bytes = Done
-said d MasterReset bytes = Done
+said d MrPin bytes = Done
 said d Unknown bytes = Done

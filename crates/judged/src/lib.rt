@@ -71,7 +71,7 @@ pub fn impossible(d: Device, e: Event) -> bool
         Event::BusActivity => false,
         Event::Ticks(_) => false,
         Event::TxenPin(_) => false,
-        Event::MasterReset => false,
+        Event::MrPin => false,
         Event::Unknown => true,
     }
 }
@@ -154,7 +154,7 @@ pub fn said(d: Device, e: Event, payload: [u8; 8]) -> Answer
         Event::BusActivity => Answer::Done,
         Event::Ticks(_) => Answer::Done,
         Event::TxenPin(_) => Answer::Done,
-        Event::MasterReset => Answer::Done,
+        Event::MrPin => Answer::Done,
         Event::Unknown => Answer::Done,
     }
 }

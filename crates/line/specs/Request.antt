@@ -11,7 +11,7 @@ use Rattle.events.specs.declared.ErrorKind.{ErrorKind}
 use Rattle.events.specs.declared.ErrorKind.the-variants.{Stuff, Ack, Crc, Form, Bit}
 use Rattle.events.specs.declared.Event.the-variants.{GoodFrame, ReceiveError, DominantBit, TransmitError, Begun, Completed}
 use Rattle.events.specs.declared.Event.the-variants.{ArbitrationLost, ElevenRecessive, BusQuiet, BusActivity}
-use Rattle.events.specs.declared.Event.the-variants.{Ticks, TxenPin, MasterReset}
+use Rattle.events.specs.declared.Event.the-variants.{Ticks, TxenPin, MrPin}
 use Rattle.line.specs.declared.Expected.{Expected}
 use Rattle.line.specs.declared.Expected.the-variants.{Request, Byte, Room, Identifier, StdOrExt, DataOrRemote}
 use Rattle.line.specs.declared.Expected.the-variants.{LengthCode, AckOrNoack, Error, CountedOrExempt, Count}
@@ -159,7 +159,7 @@ alones =
     ∷ (ascii "recessive", Asks (Happens ElevenRecessive))
     ∷ (ascii "quiet", Asks (Happens BusQuiet))
     ∷ (ascii "activity", Asks (Happens BusActivity))
-    ∷ (ascii "mr", Asks (Happens MasterReset))
+    ∷ (ascii "mr", Asks (Happens MrPin))
     ∷ (ascii "pins", Asks Pins)
     ∷ []
 

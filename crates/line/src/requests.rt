@@ -78,7 +78,7 @@ fn alone_of(word: &[u8]) -> Alone
     } else if is(word, b"activity") {
         Alone::Asks(Asked::Happens(Event::BusActivity))
     } else if is(word, b"mr") {
-        Alone::Asks(Asked::Happens(Event::MasterReset))
+        Alone::Asks(Asked::Happens(Event::MrPin))
     } else if is(word, b"pins") {
         Alone::Asks(Asked::Pins)
     } else {

@@ -15,7 +15,7 @@ use Rattle.chip.specs.State.{loopback}
 use Rattle.receive.specs.declared.Arrival.{Arrival}
 use Rattle.events.specs.declared.Event.{Event}
 use Rattle.events.specs.declared.Event.the-variants.{GoodFrame, ReceiveError, DominantBit, TransmitError, Begun, Completed, ArbitrationLost, ElevenRecessive}
-use Rattle.events.specs.declared.Event.the-variants.{BusQuiet, BusActivity, Ticks, TxenPin, MasterReset, Unknown}
+use Rattle.events.specs.declared.Event.the-variants.{BusQuiet, BusActivity, Ticks, TxenPin, MrPin, Unknown}
 use Rattle.judged.specs.declared.Answer.{Answer}
 use Rattle.judged.specs.declared.Answer.the-variants.{Refused as RefusedEvent, Done, Arrived}
 use Rattle.judged.specs.Judged.{impossible, said, echo}
@@ -102,7 +102,7 @@ said-done d BusQuiet payload = refl
 said-done d BusActivity payload = refl
 said-done d (Ticks count) payload = refl
 said-done d (TxenPin level) payload = refl
-said-done d MasterReset payload = refl
+said-done d MrPin payload = refl
 said-done d Unknown payload = refl
 
 answer-number : (p q : Bool) (a : Answer) → numberOf a ≡ 0

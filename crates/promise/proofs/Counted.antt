@@ -17,7 +17,7 @@ use Rattle.receive.specs.declared.Arrival.{Arrival}
 use Rattle.receive.specs.Receive.{arrived}
 use Rattle.events.specs.declared.Event.{Event}
 use Rattle.events.specs.declared.Event.the-variants.{GoodFrame, ReceiveError, DominantBit, TransmitError, Begun, Completed, ArbitrationLost, ElevenRecessive}
-use Rattle.events.specs.declared.Event.the-variants.{BusQuiet, BusActivity, Ticks, TxenPin, MasterReset, Unknown}
+use Rattle.events.specs.declared.Event.the-variants.{BusQuiet, BusActivity, Ticks, TxenPin, MrPin, Unknown}
 use Rattle.judged.specs.declared.Answer.the-variants.{Done}
 use Rattle.changed.specs.Changed.{after, reachesTemporary, frameAfter, heard, countedFrame, echoed, receiveErrorMet, countedReceiveError, dominantMet, transmitErrorMet}
 use Rattle.changed.specs.Changed.{countedTransmitError, recessiveMet, ticked, pinSet}
@@ -70,7 +70,7 @@ module _ (d : Device) where
   after-counters BusActivity = ap (λ x. x .1) (activity-unmoved d)
   after-counters (Ticks count) = refl
   after-counters (TxenPin level) = refl
-  after-counters MasterReset = refl
+  after-counters MrPin = refl
   after-counters Unknown = refl
 
   frame-counters : (h : Header) (payload : List ℕ) (what : Arrival)

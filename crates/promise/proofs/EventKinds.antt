@@ -19,7 +19,7 @@ use Rattle.receive.specs.declared.Arrival.the-variants.{Queued, A5}
 use Rattle.receive.specs.Receive.{hit, room, passed, answered as filtered, filtersAndRoom}
 use Rattle.events.specs.declared.Event.{Event}
 use Rattle.events.specs.declared.Event.the-variants.{GoodFrame, ReceiveError, DominantBit, TransmitError, Begun, Completed, ArbitrationLost, ElevenRecessive}
-use Rattle.events.specs.declared.Event.the-variants.{BusQuiet, BusActivity, Ticks, TxenPin, MasterReset, Unknown}
+use Rattle.events.specs.declared.Event.the-variants.{BusQuiet, BusActivity, Ticks, TxenPin, MrPin, Unknown}
 use Rattle.judged.specs.declared.Answer.the-variants.{Refused, Done, Arrived}
 use Rattle.judged.specs.Judged.{impossible, said, echo, reason}
 use Rattle.changed.specs.Changed.{reachesTemporary, frameAfter, echoed, arrival, after}
@@ -89,7 +89,7 @@ module _ (P : Event → Bool → Given → Device → Type 0) (d : Device) (payl
   by-kind BusActivity possible = plain BusActivity possible
   by-kind (Ticks count) possible = plain (Ticks count) possible
   by-kind (TxenPin level) possible = plain (TxenPin level) possible
-  by-kind MasterReset possible = plain MasterReset possible
+  by-kind MrPin possible = plain MrPin possible
   by-kind Unknown possible = plain Unknown possible
 
   pub by-happening : (e : Event) → Holds e (step d (wire e payload))

@@ -21,7 +21,7 @@ use Rattle.receive.specs.Receive.{arrived, hit, queueAfter, isQueued}
 use Rattle.events.specs.declared.ErrorKind.{ErrorKind}
 use Rattle.events.specs.declared.Event.{Event}
 use Rattle.events.specs.declared.Event.the-variants.{GoodFrame, ReceiveError, DominantBit, TransmitError, Begun, Completed, ArbitrationLost, ElevenRecessive}
-use Rattle.events.specs.declared.Event.the-variants.{BusQuiet, BusActivity, Ticks, TxenPin, MasterReset, Unknown}
+use Rattle.events.specs.declared.Event.the-variants.{BusQuiet, BusActivity, Ticks, TxenPin, MrPin, Unknown}
 use Rattle.judged.specs.declared.Answer.{Answer}
 use Rattle.judged.specs.Judged.{impossible, said, echo}
 use Rattle.changed.specs.Changed.{errBit, countedFrame, heard, reachesTemporary, frameAfter, countedReceiveError, receiveErrorMet, dominantMet, countedTransmitError}
@@ -181,5 +181,5 @@ event-in d h BusQuiet payload possible = quiet-in d h
 event-in d h BusActivity payload possible = activity-in d h
 event-in d h (Ticks count) payload possible = ticked-in d h count
 event-in d h (TxenPin level) payload possible = pin-in d h level
-event-in d h MasterReset payload possible = reset-in d h
+event-in d h MrPin payload possible = reset-in d h
 event-in d h Unknown payload possible = h

@@ -18,14 +18,14 @@ use Rattle.frame.specs.Tables.{idFrom, idAsRead}
 use Rattle.frame.specs.Received.{received, idIn, headerIn, dataIn}
 use Rattle.frame.proofs.ReadBack.{header-back, data-back, time-back, filter-back}
 use Rattle.filter.specs.Lowest.{filhit}
-use Rattle.sent.specs.declared.Message.{Message as SentMessage}
+use Rattle.sent.specs.declared.ToSend.{ToSend}
 use Rattle.sent.specs.Sent.{messageOf, stored}
 use Rattle.chip.specs.declared.Device.{Device}
 use Rattle.chip.specs.State.{fresh, loopback, resetBit}
 use Rattle.receive.specs.Receive.{hit, message}
 use Rattle.events.specs.declared.Event.{Event}
 use Rattle.events.specs.declared.Event.the-variants.{GoodFrame, ReceiveError, DominantBit, TransmitError, Begun, Completed, ArbitrationLost, ElevenRecessive}
-use Rattle.events.specs.declared.Event.the-variants.{BusQuiet, BusActivity, Ticks, TxenPin, MasterReset, Unknown}
+use Rattle.events.specs.declared.Event.the-variants.{BusQuiet, BusActivity, Ticks, TxenPin, MrPin, Unknown}
 use Rattle.judged.specs.Judged.{impossibleFrame, runs}
 use Rattle.commands.specs.declared.Found.{Found}
 use Rattle.commands.specs.declared.Found.the-variants.{At, Nothing}
@@ -79,7 +79,7 @@ header-possible m a c code =
 abbrev Headed : Message → Type 0
 Headed m = possible (headerIn (m .bytes)) ≡ true
 
-stored-headed : (m : SentMessage) → possible (headerIn (stored m)) ≡ true
+stored-headed : (m : ToSend) → possible (headerIn (stored m)) ≡ true
 unfolding stored received idAsRead
 stored-headed m = header-possible (stored m) (omega arith) (omega arith) (omega arith)
 
@@ -138,7 +138,7 @@ module _ (o : Outbox) (h : BoxHeaded o) where
   happened-headed Completed = (remaining-headed (o .queue) (o .running) (h .0), tt)
   happened-headed (TransmitError kind counted) = (h .0, tt)
   happened-headed ArbitrationLost = (h .0, tt)
-  happened-headed MasterReset = h
+  happened-headed MrPin = h
   happened-headed (GoodFrame header acknowledged n) = h
   happened-headed (ReceiveError kind) = h
   happened-headed DominantBit = h
@@ -197,7 +197,7 @@ event-truly d own BusQuiet payload = tt
 event-truly d own BusActivity payload = tt
 event-truly d own (Ticks count) payload = tt
 event-truly d own (TxenPin level) payload = tt
-event-truly d own MasterReset payload = tt
+event-truly d own MrPin payload = tt
 event-truly d own Unknown payload = tt
 
 pub as-arrived : FieldsStandAsTheyArrived

@@ -20,7 +20,7 @@ use Rattle.receive.specs.declared.Arrival.{Arrival}
 use Rattle.receive.specs.Receive.{arrived, hit, isQueued}
 use Rattle.events.specs.declared.Event.{Event}
 use Rattle.events.specs.declared.Event.the-variants.{GoodFrame, ReceiveError, DominantBit, TransmitError, Begun, Completed, ArbitrationLost, ElevenRecessive}
-use Rattle.events.specs.declared.Event.the-variants.{BusQuiet, BusActivity, Ticks, TxenPin, MasterReset, Unknown}
+use Rattle.events.specs.declared.Event.the-variants.{BusQuiet, BusActivity, Ticks, TxenPin, MrPin, Unknown}
 use Rattle.judged.specs.declared.Answer.the-variants.{Done, Arrived}
 use Rattle.judged.specs.Judged.{impossible, runs}
 use Rattle.changed.specs.Changed.{after, reachesTemporary, frameAfter, heard, echoed, receiveErrorMet, dominantMet, transmitErrorMet, recessiveMet, ticked, pinSet}
@@ -84,7 +84,7 @@ module _ (d : Device) where
     after-rises BusActivity = activity-rises
     after-rises (Ticks count) = stays (d .regs .intf)
     after-rises (TxenPin level) = stays (d .regs .intf)
-    after-rises MasterReset = refl
+    after-rises MrPin = refl
     after-rises Unknown = stays (d .regs .intf)
 
     -- a frame that reaches the buffer, or activity on the bus

@@ -21,7 +21,7 @@ use Rattle.receive.specs.declared.Arrival.the-variants.{Queued, A1, A2, A3, A4,
 use Rattle.receive.specs.Receive.{hit, room, passed, answered as judgedBy, filtersAndRoom, message, isQueued, queueAfter, arrived}
 use Rattle.events.specs.declared.Event.{Event}
 use Rattle.events.specs.declared.Event.the-variants.{GoodFrame, ReceiveError, DominantBit, TransmitError, Begun, Completed, ArbitrationLost, ElevenRecessive}
-use Rattle.events.specs.declared.Event.the-variants.{BusQuiet, BusActivity, Ticks, TxenPin, MasterReset, Unknown}
+use Rattle.events.specs.declared.Event.the-variants.{BusQuiet, BusActivity, Ticks, TxenPin, MrPin, Unknown}
 use Rattle.judged.specs.declared.Answer.the-variants.{Refused, Done, Arrived}
 use Rattle.judged.specs.Judged.{impossible, runs, takesNoFrames, unacknowledged, reason, echo, said}
 use Rattle.changed.specs.Changed.{heard, reachesTemporary, frameAfter, receiveErrorMet, dominantMet, transmitErrorMet, echoed, recessiveMet, ticked, pinSet, arrival, after}
@@ -168,7 +168,7 @@ module _ (d : Device) (l : Ledger) (h : Kept d l) where
   done-agrees BusActivity payload possible range = leaves BusActivity payload range activity-queue
   done-agrees (Ticks count) payload possible range = leaves (Ticks count) payload range refl
   done-agrees (TxenPin level) payload possible range = leaves (TxenPin level) payload range refl
-  done-agrees MasterReset payload possible range = clear-agrees d l h [] (reset d) (answered Done) range refl refl refl
+  done-agrees MrPin payload possible range = clear-agrees d l h [] (reset d) (answered Done) range refl refl refl
   done-agrees Unknown payload possible range = absurd (false≢true (sym possible))
 
   -- ---- and one that is refused
@@ -181,7 +181,7 @@ module _ (d : Device) (l : Ledger) (h : Kept d l) where
   unfolding impossible runs
   refused-agrees (GoodFrame header acknowledged n) payload not-so = rw not-so left-alone
   refused-agrees Completed payload not-so = rw (not-true (runs d) not-so) left-alone
-  refused-agrees MasterReset payload not-so = absurd (false≢true not-so)
+  refused-agrees MrPin payload not-so = absurd (false≢true not-so)
   refused-agrees (ReceiveError kind) payload not-so = left-alone
   refused-agrees DominantBit payload not-so = left-alone
   refused-agrees (TransmitError kind counted) payload not-so = left-alone

@@ -20,7 +20,7 @@ use Rattle.receive.specs.declared.Arrival.{Arrival}
 use Rattle.receive.specs.Receive.{arrived}
 use Rattle.events.specs.declared.Event.{Event}
 use Rattle.events.specs.declared.Event.the-variants.{GoodFrame, ReceiveError, DominantBit, TransmitError, Begun, Completed, ArbitrationLost, ElevenRecessive}
-use Rattle.events.specs.declared.Event.the-variants.{BusQuiet, BusActivity, Ticks, TxenPin, MasterReset, Unknown}
+use Rattle.events.specs.declared.Event.the-variants.{BusQuiet, BusActivity, Ticks, TxenPin, MrPin, Unknown}
 use Rattle.judged.specs.Judged.{impossible}
 use Rattle.changed.specs.Changed.{reachesTemporary, heard, frameAfter, receiveErrorMet, dominantMet, transmitErrorMet, echoed, recessiveMet, ticked, pinSet, after}
 use Rattle.commands.specs.declared.Found.the-variants.{At}
@@ -144,7 +144,7 @@ module _ (d : Device) (o : Outbox) (h : Held d o) where
   after-held BusActivity possible = same-held d o h _ (activity-same d)
   after-held (Ticks count) possible = same-held d o h _ refl
   after-held (TxenPin level) possible = same-held d o h _ refl
-  after-held MasterReset possible = empty-held _ refl refl
+  after-held MrPin possible = empty-held _ refl refl
   after-held Unknown possible = h
 
   event-held : (e : Event) (payload : List ℕ) → Held (step d (wire e payload) .device) (outboxAfter d o (wire e payload) (step d (wire e payload)))

@@ -17,7 +17,7 @@ use Rattle.receive.specs.Receive.{arrived}
 use Rattle.events.specs.declared.ErrorKind.{ErrorKind}
 use Rattle.events.specs.declared.Event.{Event}
 use Rattle.events.specs.declared.Event.the-variants.{GoodFrame, ReceiveError, DominantBit, TransmitError, Begun, Completed, ArbitrationLost, ElevenRecessive}
-use Rattle.events.specs.declared.Event.the-variants.{BusQuiet, BusActivity, Ticks, TxenPin, MasterReset, Unknown}
+use Rattle.events.specs.declared.Event.the-variants.{BusQuiet, BusActivity, Ticks, TxenPin, MrPin, Unknown}
 use Rattle.changed.specs.Changed.{errBit, after, reachesTemporary, frameAfter, heard, echoed, receiveErrorMet, dominantMet, transmitErrorMet, recessiveMet, ticked, pinSet}
 use Rattle.commands.specs.Verbs.{readErr}
 use Rattle.promise.specs.Promises.{ErrIsTheKindsSeen}
@@ -57,7 +57,7 @@ module _ (d : Device) (kinds : List ErrorKind) (same : d .regs .errs ≡ kindBit
   after-errs BusActivity = ap (λ x. x .2) (activity-unmoved d) ∙ same
   after-errs (Ticks count) = same
   after-errs (TxenPin level) = same
-  after-errs MasterReset = same
+  after-errs MrPin = same
   after-errs Unknown = same
 
   frame-errs : (h : Header) (payload : List ℕ) (what : Arrival) → frameAfter d h payload what .regs .errs ≡ kindBits kinds

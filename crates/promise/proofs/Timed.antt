@@ -17,7 +17,7 @@ use Rattle.receive.specs.declared.Arrival.{Arrival}
 use Rattle.receive.specs.Receive.{arrived}
 use Rattle.events.specs.declared.Event.{Event}
 use Rattle.events.specs.declared.Event.the-variants.{GoodFrame, ReceiveError, DominantBit, TransmitError, Begun, Completed, ArbitrationLost, ElevenRecessive}
-use Rattle.events.specs.declared.Event.the-variants.{BusQuiet, BusActivity, Ticks, TxenPin, MasterReset, Unknown}
+use Rattle.events.specs.declared.Event.the-variants.{BusQuiet, BusActivity, Ticks, TxenPin, MrPin, Unknown}
 use Rattle.changed.specs.Changed.{after, reachesTemporary, frameAfter, heard, echoed, receiveErrorMet, dominantMet, transmitErrorMet, recessiveMet, ticked as tickedOn, pinSet}
 use Rattle.commands.specs.Verbs.{resetTime, masterReset, writeCtrl0 as writesCtrl0}
 use Rattle.promise.specs.Promises.{TheTimeTagIsTheTicks}
@@ -61,7 +61,7 @@ module _ (d : Device) (t : ℕ) (same : d .time ≡ t % 65536) where
   after-time BusActivity = ap (λ x. x .0) (activity-unmoved d) ∙ same
   after-time (Ticks count) = omega arith
   after-time (TxenPin level) = same
-  after-time MasterReset = refl
+  after-time MrPin = refl
   after-time Unknown = same
 
   frame-time : (h : Header) (payload : List ℕ) (what : Arrival) → frameAfter d h payload what .time ≡ t % 65536

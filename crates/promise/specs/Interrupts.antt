@@ -15,7 +15,7 @@ use Rattle.receive.specs.declared.Arrival.{Arrival}
 use Rattle.receive.specs.Receive.{hit, isQueued}
 use Rattle.events.specs.declared.Event.{Event}
 use Rattle.events.specs.declared.Event.the-variants.{GoodFrame, ReceiveError, DominantBit, TransmitError, Begun, Completed, ArbitrationLost, ElevenRecessive}
-use Rattle.events.specs.declared.Event.the-variants.{BusQuiet, BusActivity, Ticks, TxenPin, MasterReset, Unknown}
+use Rattle.events.specs.declared.Event.the-variants.{BusQuiet, BusActivity, Ticks, TxenPin, MrPin, Unknown}
 use Rattle.judged.specs.declared.Answer.the-variants.{Refused, Done, Arrived}
 use Rattle.changed.specs.Changed.{reachesTemporary}
 use Rattle.commands.specs.Verbs.{readIntf}
@@ -59,7 +59,7 @@ ownFlags BusQuiet = []
 ownFlags BusActivity = []
 ownFlags (Ticks count) = []
 ownFlags (TxenPin level) = []
-ownFlags MasterReset = []
+ownFlags MrPin = []
 ownFlags Unknown = []
 
 -- MCHG when another mode acts than before

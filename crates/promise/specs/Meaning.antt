@@ -14,7 +14,7 @@ use Rattle.receive.specs.declared.Arrival.{Arrival}
 use Rattle.receive.specs.declared.Arrival.the-variants.{A1, A2, A3}
 use Rattle.events.specs.declared.Event.{Event}
 use Rattle.events.specs.declared.Event.the-variants.{GoodFrame, ReceiveError, DominantBit, TransmitError, Begun, Completed, ArbitrationLost, ElevenRecessive}
-use Rattle.events.specs.declared.Event.the-variants.{BusQuiet, BusActivity, Ticks, TxenPin, MasterReset, Unknown}
+use Rattle.events.specs.declared.Event.the-variants.{BusQuiet, BusActivity, Ticks, TxenPin, MrPin, Unknown}
 use Rattle.judged.specs.Judged.{takesNoFrames, unacknowledged, impossibleFrame, runs}
 use Rattle.commands.specs.declared.Found.{Found}
 use Rattle.commands.specs.declared.Found.the-variants.{At, Nothing}
@@ -63,7 +63,7 @@ eventMeans d (GoodFrame h acknowledged given) payload =
     pick (impossibleFrame h given) other (frame h payload (fromTheBus d acknowledged))
 eventMeans d Completed payload =
     pick (runs d && eqb (d .acting) loopback) (frame (headerIn (d .buffer .bytes)) (dataIn (d .buffer .bytes)) []) other
-eventMeans d MasterReset payload = clearing
+eventMeans d MrPin payload = clearing
 eventMeans d (ReceiveError kind) payload = other
 eventMeans d DominantBit payload = other
 eventMeans d (TransmitError kind counted) payload = other

@@ -14,7 +14,7 @@ use Rattle.chip.specs.State.{fresh, idle, firstInFifo}
 use Rattle.chip.specs.State as State
 use Rattle.events.specs.declared.Event.{Event}
 use Rattle.events.specs.declared.Event.the-variants.{GoodFrame, ReceiveError, DominantBit, TransmitError, Begun, Completed, ArbitrationLost, ElevenRecessive}
-use Rattle.events.specs.declared.Event.the-variants.{BusQuiet, BusActivity, Ticks, TxenPin, MasterReset, Unknown}
+use Rattle.events.specs.declared.Event.the-variants.{BusQuiet, BusActivity, Ticks, TxenPin, MrPin, Unknown}
 use Rattle.commands.specs.Verbs.{abortTransmission, clearTransmit, writeMessage}
 use Rattle.promise.specs.Sequence.{Input, spi, wire, Step, Machine, run, along}
 use Rattle.promise.specs.Sums.{done, asks, resetAsked, resetMet}
@@ -67,7 +67,7 @@ happened o Begun = record { queue = o .queue; running = first (getD (o .queue) 0
 happened o Completed = record { queue = remaining (o .queue) (o .running); running = none }
 happened o (TransmitError kind counted) = halted o
 happened o ArbitrationLost = halted o
-happened o MasterReset = o
+happened o MrPin = o
 happened o (GoodFrame h acknowledged n) = o
 happened o (ReceiveError kind) = o
 happened o DominantBit = o

@@ -14,7 +14,7 @@ use Rattle.chip.specs.State.{fresh, normal, unlessMonitor, resetBit, bor}
 use Rattle.events.specs.declared.ErrorKind.{ErrorKind}
 use Rattle.events.specs.declared.Event.{Event}
 use Rattle.events.specs.declared.Event.the-variants.{GoodFrame, ReceiveError, DominantBit, TransmitError, Begun, Completed, ArbitrationLost, ElevenRecessive}
-use Rattle.events.specs.declared.Event.the-variants.{BusQuiet, BusActivity, Ticks, TxenPin, MasterReset, Unknown}
+use Rattle.events.specs.declared.Event.the-variants.{BusQuiet, BusActivity, Ticks, TxenPin, MrPin, Unknown}
 use Rattle.judged.specs.declared.Answer.the-variants.{Refused, Done, Arrived}
 use Rattle.changed.specs.Changed.{errBit, reachesTemporary}
 use Rattle.commands.specs.Verbs.{readErr, masterReset, resetTime, writeCtrl0, writeRec, writeTec}
@@ -37,7 +37,7 @@ resetAsked bytes = asks masterReset bytes || (asks writeCtrl0 bytes && resetBit 
 
 -- and of the events the MR pin alone
 abbrev pub resetMet : Event → Bool
-resetMet MasterReset = true
+resetMet MrPin = true
 resetMet (GoodFrame h acknowledged n) = false
 resetMet (ReceiveError kind) = false
 resetMet DominantBit = false
@@ -75,7 +75,7 @@ countedEvent acting recovers c BusQuiet given = c
 countedEvent acting recovers c BusActivity given = c
 countedEvent acting recovers c (Ticks count) given = c
 countedEvent acting recovers c (TxenPin level) given = c
-countedEvent acting recovers c MasterReset given = c
+countedEvent acting recovers c MrPin given = c
 countedEvent acting recovers c Unknown given = c
 
 -- 0x24 and 0x26
@@ -102,7 +102,7 @@ Counted step = (is : List Input) → run step fresh is .counters ≡ sum step is
 -- the ticks since the last reset, by 0x58 or a master reset
 abbrev pub ticksAfter : ℕ → Event → ℕ
 ticksAfter t (Ticks count) = t + count
-ticksAfter t MasterReset = t
+ticksAfter t MrPin = t
 ticksAfter t (GoodFrame h acknowledged n) = t
 ticksAfter t (ReceiveError kind) = t
 ticksAfter t DominantBit = t
@@ -142,7 +142,7 @@ kindOf BusQuiet = []
 kindOf BusActivity = []
 kindOf (Ticks count) = []
 kindOf (TxenPin level) = []
-kindOf MasterReset = []
+kindOf MrPin = []
 kindOf Unknown = []
 
 -- the kinds seen since the last read of ERR, the last first

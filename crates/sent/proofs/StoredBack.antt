@@ -5,10 +5,10 @@ use Rattle.frame.specs.Length.{possible, dataOf}
 use Rattle.frame.specs.Tables.{idAsRead}
 use Rattle.frame.specs.Received.{received, headerIn, dataIn}
 use Rattle.frame.proofs.ReadBack.{header-back}
-use Rattle.sent.specs.declared.Message.{Message}
+use Rattle.sent.specs.declared.ToSend.{ToSend}
 use Rattle.sent.specs.Sent.{stored}
 
-module _ (m : Message) where
+module _ (m : ToSend) where
   pub stored-header : possible (m .header) ≡ true → headerIn (stored m) ≡ m .header
   unfolding stored received idAsRead headerIn
   stored-header ok = header-back (m .header) (m .bytes) 0 0 ok

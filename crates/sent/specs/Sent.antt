@@ -7,7 +7,7 @@ use lib.ListN.{length, drop, replicate}
 use Rattle.base.specs.Bit.{bits, byte, isSet}
 use Rattle.base.specs.Pick.{pick}
 use Rattle.frame.specs.declared.Header.{Header}
-use Rattle.sent.specs.declared.Message.{Message}
+use Rattle.sent.specs.declared.ToSend.{ToSend}
 use Rattle.sent.specs.declared.Reading.{Reading}
 use Rattle.frame.specs.Length.{dataBytes, dataOf}
 use Rattle.frame.specs.Received.{received}
@@ -44,11 +44,11 @@ headerSent s =
 unfoldable pub rightLength : List ℕ → Bool
 rightLength s = leb (dataFrom s + dataBytes (headerSent s)) (length s) && leb (length s) (dataFrom s + 8)
 
-abbrev pub messageIn : List ℕ → Message
+abbrev pub messageIn : List ℕ → ToSend
 messageIn s = record { tag = byte s 1; header = headerSent s; bytes = dataOf (headerSent s) (drop (dataFrom s) s) }
 
 -- what a wrong length leaves in the message's place
-abbrev pub noMessage : Message
+abbrev pub noMessage : ToSend
 noMessage = record { tag = 0; header = record { id = 0; extended = false; remote = false; code = 0 }; bytes = replicate 8 0 }
 
 unfoldable pub messageOf : List ℕ → Reading
@@ -58,5 +58,5 @@ messageOf s =
     (record { fits = false; message = noMessage })
 
 -- As the transmit FIFO keeps it, in Table 5's layout: the tag for byte 1, no time in bytes 2 and 3, then what a receiver would read.
-unfoldable pub stored : Message → List ℕ
+unfoldable pub stored : ToSend → List ℕ
 stored m = m .tag ∷ drop 1 (received (m .header) (m .bytes) 0 0)

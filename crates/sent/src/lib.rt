@@ -5,7 +5,7 @@ ghost use Rattle.sent.specs.Sent.{isExtended, dataFrom, standardHeader, 
 ghost use Rattle.sent.specs.Sent.{rightLength, messageIn, messageOf, stored};
 use frame::Header;
 
-pub struct Message {
+pub struct ToSend {
     // Told again in the transmit history.
     pub tag: u8,
     pub header: Header,
@@ -15,7 +15,7 @@ pub struct Message {
 // What 0x12 brought: the message, or an empty one in its place where the length is wrong.
 pub struct Reading {
     pub fits: bool,
-    pub message: Message,
+    pub message: ToSend,
 }
 
 fn is_extended(s: &[u8]) -> bool
@@ -81,7 +81,7 @@ pub fn right_length(s: &[u8]) -> bool
     }
 }
 
-fn message_in(s: &[u8]) -> Message
+fn message_in(s: &[u8]) -> ToSend
     requires { ⌜ rightLength (now s) ≡ true ⌝ }
     ensures { λ r. ⌜ r ≡ messageIn (now (s .entry)) ⌝ }
 {
@@ -91,7 +91,7 @@ fn message_in(s: &[u8]) -> Message
     let end = from + frame::data_bytes(header);
     let mut bytes = [0u8; 8];
     base::put(&s[from..end], &mut bytes);
-    Message { tag, header, bytes }
+    ToSend { tag, header, bytes }
 }
 
 pub fn message_of(s: &[u8]) -> Reading
@@ -110,7 +110,7 @@ pub fn message_of(s: &[u8]) -> Reading
             remote: false,
             code: 0,
         };
-        let message = Message {
+        let message = ToSend {
             tag: 0,
             header,
             bytes: [0u8; 8],
@@ -123,7 +123,7 @@ pub fn message_of(s: &[u8]) -> Reading
 }
 
 // A message to send as the transmit FIFO keeps it: Table 5's layout, with the tag for byte 1 and no time yet.
-pub fn stored(m: Message) -> [u8; 16]
+pub fn stored(m: ToSend) -> [u8; 16]
     ensures { λ r. ⌜ r ≡ stored m ⌝ }
 {
     let header = m.header;
