@@ -20,7 +20,7 @@ use Rattle.events.specs.declared.Event.the-variants.{GoodFrame, ReceiveError, D
 use Rattle.events.specs.declared.Event.the-variants.{ArbitrationLost, ElevenRecessive, BusQuiet, BusActivity, Ticks, TxenPin}
 use Rattle.events.specs.declared.Event.the-variants.{MrPin, Unknown}
 
--- the modes that hear nothing
+-- initialization and sleep: no error is met, and no frame taken
 unfoldable pub quietMode : ℕ → Bool
 quietMode acting = eqb acting initialization || eqb acting sleep
 

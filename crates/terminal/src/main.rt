@@ -21,6 +21,9 @@ const READ_INTF: u8 = 0xDE;
 
 const READ_STATF: u8 = 0xE2;
 
+// CTRL0 with MODE 000.
+const NORMAL_MODE: u8 = 0x00;
+
 // INTE's bit that lets RXFIFO raise INT.
 const RXFIFOIE: u8 = 0x40;
 
@@ -70,7 +73,7 @@ fn switched_on() -> Device
     ensures { λ r. ⌜ r ≡ switchedOn ⌝ }
 {
     let d = write(chip::fresh(), WRITE_INTE, RXFIFOIE);
-    let d = write(d, WRITE_CTRL0, chip::NORMAL);
+    let d = write(d, WRITE_CTRL0, NORMAL_MODE);
     read_flags(d)
 }
 
