@@ -1,5 +1,5 @@
 /* The host's side: one SPI transfer. */
-#include "internal.h"
+#include "registers.h"
 
 enum {
     WRITE_MESSAGE = 0x12, WRITE_CTRL0 = 0x14, WRITE_CTRL1 = 0x16, WRITE_BTR0 = 0x18, WRITE_BTR1 = 0x1A,
@@ -11,91 +11,6 @@ enum {
     READ_INTF = 0xDE, READ_STATF = 0xE2, READ_INTE = 0xE4, READ_STATFE = 0xE6, READ_GPINE = 0xE8,
     READ_REC = 0xEA, READ_TEC = 0xEC, READ_HISTORY = 0xEE, READ_RECESSIVE_COUNT = 0xF8, READ_TIME_TAG = 0xFA,
 };
-
-static int check_read(size_t count, size_t room, size_t size)
-{
-    if (count != 1)
-        return HI3110_BAD_LENGTH;
-    return room < size ? HI3110_SHORT_REPLY : HI3110_DONE;
-}
-
-static int read_register(uint8_t value, size_t count, uint8_t *reply, size_t room)
-{
-    int number = check_read(count, room, 1);
-    if (number == HI3110_DONE)
-        reply[0] = value;
-    return number;
-}
-
-static int write_register(uint8_t *reg, const uint8_t *bytes, size_t count)
-{
-    if (count != 2)
-        return HI3110_BAD_LENGTH;
-    *reg = bytes[1];
-    return HI3110_DONE;
-}
-
-static int write_bit_timing(const struct hi3110 *d, uint8_t *reg, const uint8_t *bytes, size_t count)
-{
-    if (count == 2 && d->mode != INITIALIZATION)
-        return HI3110_NOT_INITIALIZING;
-    return write_register(reg, bytes, count);
-}
-
-static int write_ctrl0(struct hi3110 *d, const uint8_t *bytes, size_t count)
-{
-    if (count != 2)
-        return HI3110_BAD_LENGTH;
-    if (bytes[1] & CTRL0_RESET) {
-        hi3110_reset(d);
-        d->ctrl0 |= CTRL0_RESET; /* readable until the host clears it */
-        return HI3110_DONE;
-    }
-    uint8_t mode = bytes[1] >> MODE_SHIFT;
-    if (mode > INITIALIZATION)
-        mode = INITIALIZATION;
-    d->ctrl0 = bytes[1];
-    if (mode != SLEEP && mode != d->mode) { /* sleep waits for a quiet bus */
-        d->transmission = IDLE;
-        change_mode(d, mode);
-    }
-    return HI3110_DONE;
-}
-
-/* Op-codes of filters 0 to 7 and then masks 0 to 7 rise by two and skip each x0. */
-static unsigned bank_place(unsigned offset)
-{
-    return offset / 16 * 7 + offset % 16 / 2 - 1;
-}
-
-static int read_bank(const struct hi3110 *d, unsigned place, size_t count, uint8_t *reply, size_t room)
-{
-    int number = check_read(count, room, 6);
-    if (number == HI3110_DONE) {
-        unsigned n = place % HI3110_PLACES;
-        bool filter = place < HI3110_PLACES;
-        put32(reply, filter ? d->filter_id[n] : d->mask_id[n]);
-        put16(reply + 4, filter ? d->filter_data[n] : d->mask_data[n]);
-    }
-    return number;
-}
-
-static int write_bank(struct hi3110 *d, unsigned place, const uint8_t *bytes, size_t count)
-{
-    if (count != 7)
-        return HI3110_BAD_LENGTH;
-    if (d->mode != INITIALIZATION)
-        return HI3110_NOT_INITIALIZING;
-    unsigned n = place % HI3110_PLACES;
-    if (place < HI3110_PLACES) {
-        d->filter_id[n] = get32(bytes + 1);
-        d->filter_data[n] = get16(bytes + 5);
-    } else {
-        d->mask_id[n] = get32(bytes + 1);
-        d->mask_data[n] = get16(bytes + 5);
-    }
-    return HI3110_DONE;
-}
 
 /* Table 2: tag, identifier (2 or 4 bytes), length code, data. Data bytes past the length code are ignored. */
 static int write_message(struct hi3110 *d, const uint8_t *bytes, size_t count)
@@ -150,53 +65,6 @@ static int read_history(struct hi3110 *d, size_t count, uint8_t *reply, size_t r
     d->history_head = (d->history_head + 1) % HI3110_PLACES;
     d->history_count--;
     return HI3110_DONE;
-}
-
-static uint8_t messtat(const struct hi3110 *d)
-{
-    uint8_t tstat;
-    if (d->transmission != IDLE)
-        tstat = 3;
-    else if (!enabled(d))
-        tstat = 0;
-    else
-        tstat = d->tx_count == 0 ? 1 : 2;
-    return d->filhit | d->mtag | tstat;
-}
-
-static uint8_t error_register(const struct hi3110 *d)
-{
-    uint8_t v = d->err;
-    if (d->bus_off)
-        v |= ERR_BUSOFF;
-    else if (d->tec >= PASSIVE)
-        v |= ERR_TXERRP;
-    if (d->rec >= PASSIVE)
-        v |= ERR_RXERRP;
-    return v;
-}
-
-static uint8_t statf(const struct hi3110 *d)
-{
-    uint8_t tec = d->bus_off ? 0 : d->tec; /* in bus off the error flags follow REC alone */
-    uint8_t v = 0;
-    if (d->tx_count == 0)
-        v |= STATF_TXMTY;
-    if (d->tx_count == HI3110_PLACES)
-        v |= STATF_TXFULL;
-    if (d->history_count == HI3110_PLACES)
-        v |= STATF_TXHISF;
-    if ((d->rec >= WARNING && d->rec < PASSIVE) || (tec >= WARNING && tec < PASSIVE))
-        v |= STATF_ERRW;
-    if (d->rec >= PASSIVE || tec >= PASSIVE)
-        v |= STATF_ERRP;
-    if (d->bus_off)
-        v |= STATF_BUSOFF;
-    if (d->rx_count == 0)
-        v |= STATF_RXFMTY;
-    if (d->rx_count == HI3110_PLACES)
-        v |= STATF_RXFFULL;
-    return v;
 }
 
 int hi3110_transfer(struct hi3110 *d, const uint8_t *bytes, size_t count, uint8_t *reply, size_t room)

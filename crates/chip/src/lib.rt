@@ -208,23 +208,12 @@ fn acting_in_range(d: Device) -> bool
 pub fn proper(d: Device) -> bool
     ensures { λ r. ⌜ r ≡ proper d ⌝ }
 {
-    let rx = d.rx;
-    let tx = d.tx;
-    let history = d.history;
-    let regs = d.regs;
-    let groups = d.counters.groups;
-    if fifo::in_range(rx) {
-        if fifo::in_range(tx) {
-            if fifo::in_range(history) {
-                if registers_in_range(regs) {
-                    if groups <= 128 {
-                        if sending_in_range(d) {
-                            return acting_in_range(d);
-                        }
-                    }
-                }
-            }
-        }
-    }
-    false
+    let received = fifo::in_range(d.rx);
+    let to_send = fifo::in_range(d.tx);
+    let history = fifo::in_range(d.history);
+    let registers = registers_in_range(d.regs);
+    let groups = d.counters.groups <= 128;
+    let sending = sending_in_range(d);
+    let acting = acting_in_range(d);
+    received & to_send & history & registers & groups & sending & acting
 }

@@ -1,7 +1,7 @@
 // The error counters REC and TEC, bus off and the groups of recessive bits that end it: one small record and the rules that
 // move it.
 ghost use mathlib.Core.Path.{_≡_};
-ghost use Prim.Native.Nat.{_+_, _-_, min};
+ghost use Prim.Native.Nat.{_+_, _-_, _≤_, min};
 ghost use Rattle.counters.specs.Rules.{receiveError, dominantBit, goodFrame, transmitError, completed};
 ghost use Rattle.counters.specs.Rules.{elevenRecessive, testRec, testTec};
 
@@ -17,15 +17,10 @@ pub struct Counters {
 
 // A count that stops at its highest number.
 fn up_to(highest: u8, n: u8, by: u8) -> u8
+    requires { ⌜ by ≤ highest ⌝ }
     ensures { λ r. ⌜ r ≡ min (n + by) highest ⌝ }
 {
-    if highest <= by {
-        highest
-    } else if n < highest - by {
-        n + by
-    } else {
-        highest
-    }
+    if n < highest - by { n + by } else { highest }
 }
 
 // A count that doesn't go below 0.

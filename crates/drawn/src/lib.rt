@@ -1,11 +1,8 @@
 // What the registers and pins show of the device, drawn anew at each look.
 ghost use mathlib.Core.Path.{_≡_};
-ghost use mathlib.Core.Bool.{not};
 ghost use Prim.Native.Nat.{_<_};
-ghost use lib.Bits.{bitAnd};
-ghost use lib.Dec.{eqb};
 ghost use Rattle.base.specs.Bit.{isSet};
-ghost use Rattle.drawn.specs.Drawn.{statf, err, tstat, messtat, int, stat, gp};
+ghost use Rattle.drawn.specs.Drawn.{statf, err, tstat, messtat, share, int, stat, gp};
 use chip::Device;
 use chip::IDLE;
 
@@ -57,7 +54,7 @@ pub fn messtat(d: Device) -> u8
 
 // Whether two bytes share a set bit.
 fn share(a: u8, b: u8) -> bool
-    ensures { λ r. ⌜ r ≡ not (eqb (bitAnd a b) 0) ⌝ }
+    ensures { λ r. ⌜ r ≡ share a b ⌝ }
 {
     a & b != 0
 }

@@ -16,7 +16,7 @@ use lib.Pow.{shr-lt}
 use Rattle.base.specs.Bit.{bit}
 use Rattle.base.specs.Pick.{pick}
 use Rattle.base.proofs.Bits.{bit-zero, bit-suc}
-use Rattle.filter.specs.Match.{agree, byteOf, placeOf, uncounted, countedOf}
+use Rattle.filter.specs.Match.{agree, byteOf, placeOf, uncounted, countedOf, countedByte}
 use Rattle.filter.proofs.Agree.{agree-alike, agree-more}
 
 -- ---- one digit
@@ -82,10 +82,6 @@ whole-agrees (suc n) x f m h =
         ∙ rw (differ-eqb (x % 2) (f % 2), lowest-digit n m, lowest-digit n x, lowest-digit n f)
 
 -- ---- six bytes of eight places
-
--- byte j of a mask, without the bit that doesn't count
-abbrev pub countedByte : ℕ → ℕ → ℕ
-countedByte j x = pick (eqb j 3) (x / 2 * 2) x
 
 module _ (j : ℕ) where
   place : (bytes : List ℕ) (k : ℕ) → k < 8 → placeOf bytes (8 * j + k) ≡ byteOf (getD bytes j 0) k

@@ -2,7 +2,7 @@
 -- compared by are six bytes each; their 48 places are numbered from 0 in the tables' order, from bit 7 of byte 1 to bit 0 of byte 6.
 use mathlib.Core.Bool.{Bool, true, _&&_, _||_}
 use mathlib.Core.List.{List}
-use Prim.Native.Nat.{ℕ, zero, suc, _-_, _/_, _%_}
+use Prim.Native.Nat.{ℕ, zero, suc, _-_, _*_, _/_, _%_}
 use lib.Dec.{eqb}
 use lib.ListN.{getD}
 use Rattle.base.specs.Bit.{bit}
@@ -21,6 +21,10 @@ uncounted = 31
 
 abbrev pub countedOf : List ℕ → ℕ → ℕ
 countedOf mask k = pick (eqb k uncounted) 0 (placeOf mask k)
+
+-- the same of a whole byte: byte j of a mask, from 0, without the bit that doesn't count
+abbrev pub countedByte : ℕ → ℕ → ℕ
+countedByte j x = pick (eqb j 3) (x / 2 * 2) x
 
 -- "A filter matches when all counted bits agree": at each of the first n places the mask has 0, or frame and filter are alike.
 -- It is said of any bits and any number of them, so that another device, or an engine that walks, can cite it.

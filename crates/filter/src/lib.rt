@@ -1,10 +1,7 @@
 // The acceptance filters: eight filters and eight masks of six bytes each, against the six bytes that a frame is compared
 // by. It knows nothing of frames or of the device.
 ghost use mathlib.Core.Path.{_≡_};
-ghost use Prim.Native.Nat.{_*_, _/_};
-ghost use lib.Dec.{eqb};
-ghost use Rattle.base.specs.Pick.{pick};
-ghost use Rattle.filter.specs.Match.{agree, byteOf, matches};
+ghost use Rattle.filter.specs.Match.{agree, byteOf, countedByte, matches};
 ghost use Rattle.filter.specs.Lowest.{lowest, filhit};
 
 // The lowest filter that matches, if one does.
@@ -22,7 +19,7 @@ fn byte_agrees(frame: u8, filter: u8, mask: u8) -> bool
 
 // Byte k of a mask, from 0, without the bit that doesn't count: the lowest of the fourth.
 fn counted(k: usize, mask: u8) -> u8
-    ensures { λ r. ⌜ r ≡ pick (eqb k 3) (mask / 2 * 2) mask ⌝ }
+    ensures { λ r. ⌜ r ≡ countedByte k mask ⌝ }
 {
     if k == 3 { mask / 2 * 2 } else { mask }
 }

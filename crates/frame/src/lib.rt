@@ -1,11 +1,13 @@
 // A CAN frame as the HI-3110 lays it out in bytes: the length rule, the identifier's bytes to send, as read and as
 // compared, and the sixteen bytes of a message.
+mod identifier;
+
+use identifier::id_parts;
 ghost use mathlib.Core.Path.{_≡_};
 ghost use Prim.Native.Nat.{_≤_};
 ghost use lib.ListN.{length};
-ghost use Rattle.base.specs.Bit.{bits};
 ghost use Rattle.frame.specs.Length.{dataLength, dataBytes, possible, dataFits, dataOf};
-ghost use Rattle.frame.specs.Tables.{idBits, idToSend, idAsRead, compared, idFrom};
+ghost use Rattle.frame.specs.Tables.{idToSend, idAsRead, compared, idFrom};
 ghost use Rattle.frame.specs.Received.{received, headerIn, dataIn};
 
 // What a frame says before its data.
@@ -89,42 +91,6 @@ fn data_of(h: Header, bytes: &[u8]) -> [u8; 8]
     let mut eight = [0u8; 8];
     base::put(&bytes[..n], &mut eight);
     eight
-}
-
-// ID28 to ID0, as the tables number the bits of both kinds.
-fn id_bits(h: Header) -> u32
-    ensures { λ r. ⌜ r ≡ idBits h ⌝ }
-{
-    let extended = h.extended;
-    let id = h.id;
-    if extended {
-        id % EXTENDED
-    } else {
-        id % STANDARD * ID18
-    }
-}
-
-// The identifier in the parts that the tables cut it into, each named by its highest bit.
-struct IdParts {
-    id28: u8,
-    id20: u8,
-    id17: u8,
-    id14: u8,
-    id6: u8,
-}
-
-fn id_parts(h: Header) -> IdParts
-    ensures { λ r. ⌜ (r .id28 ≡ bits 28 21 (idBits h)) × (r .id20 ≡ bits 20 18 (idBits h)) × (r .id17 ≡ bits 17 15 (idBits h))
-        × (r .id14 ≡ bits 14 7 (idBits h)) × (r .id6 ≡ bits 6 0 (idBits h)) ⌝ }
-{
-    let n = id_bits(h);
-    IdParts {
-        id28: ((n >> 21) % 256) as u8,
-        id20: ((n >> 18) % 8) as u8,
-        id17: ((n >> 15) % 8) as u8,
-        id14: ((n >> 7) % 256) as u8,
-        id6: (n % 128) as u8,
-    }
 }
 
 // The identifier in 0x12: Table 2. For whoever writes a message, a driver or another caller: no crate here calls it, and 01's

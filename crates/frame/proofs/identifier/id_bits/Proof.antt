@@ -1,9 +1,9 @@
--- `frame::id_bits` meets its contract. Assumes nothing.
+-- `frame::identifier::id_bits` meets its contract. Assumes nothing.
 use borrow.Author.Needs.{needs}
 use Rattle.base.specs.Pick.{picks}
 use Rattle.frame.specs.Tables.{idBits}
-use Rattle.frame.proofs.id_bits.Statement.{statement}
-use Rattle.frame.proofs.id_bits.Tie as tie
+use Rattle.frame.proofs.identifier.id_bits.Statement.{statement}
+use Rattle.frame.proofs.identifier.id_bits.Tie as tie
 
 returns-2 : tie.Need-returns-2
 unfolding idBits
