@@ -7,7 +7,7 @@ use counters::Counters;
 fn warns(n: u8) -> bool
     ensures { λ r. ⌜ r ≡ warns n ⌝ }
 {
-    if 96 <= n { n <= 127 } else { false }
+    (96 <= n) & (n <= 127)
 }
 
 fn rxerrp(c: Counters) -> bool
@@ -19,27 +19,19 @@ fn rxerrp(c: Counters) -> bool
 fn txerrp(c: Counters) -> bool
     ensures { λ r. ⌜ r ≡ txerrp c ⌝ }
 {
-    let busoff = c.busoff;
-    if busoff { false } else { 128 <= c.tec }
+    !c.busoff & (128 <= c.tec)
 }
 
 pub fn errw(c: Counters) -> bool
     ensures { λ r. ⌜ r ≡ errw c ⌝ }
 {
-    let busoff = c.busoff;
-    if warns(c.rec) {
-        true
-    } else if busoff {
-        false
-    } else {
-        warns(c.tec)
-    }
+    warns(c.rec) | (!c.busoff & warns(c.tec))
 }
 
 pub fn errp(c: Counters) -> bool
     ensures { λ r. ⌜ r ≡ errp c ⌝ }
 {
-    if rxerrp(c) { true } else { txerrp(c) }
+    rxerrp(c) | txerrp(c)
 }
 
 // Bits 7 to 5 of ERR.
