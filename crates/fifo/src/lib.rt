@@ -70,5 +70,5 @@ pub fn next(q: Fifo) -> Message
 pub fn in_range(q: Fifo) -> bool
     ensures { λ r. ⌜ r ≡ inRange q ⌝ }
 {
-    if q.first < 8 { q.count <= 8 } else { false }
+    (q.first < 8) & (q.count <= 8)
 }
