@@ -65,14 +65,8 @@ pub fn possible(h: Header) -> bool
     ensures { λ r. ⌜ r ≡ possible h ⌝ }
 {
     let extended = h.extended;
-    let id = h.id;
-    if extended {
-        if id < EXTENDED { h.code <= 15 } else { false }
-    } else if id < STANDARD {
-        h.code <= 15
-    } else {
-        false
-    }
+    let ids = if extended { EXTENDED } else { STANDARD };
+    (h.id < ids) & (h.code <= 15)
 }
 
 // Whether as many data bytes were given as the header asks for.
