@@ -74,11 +74,7 @@ pub fn right_length(s: &[u8]) -> bool
 {
     let from = data_from(s);
     let least = from + frame::data_bytes(header_sent(s));
-    if least <= s.len() {
-        s.len() <= from + 8
-    } else {
-        false
-    }
+    (least <= s.len()) & (s.len() <= from + 8)
 }
 
 fn message_in(s: &[u8]) -> ToSend
