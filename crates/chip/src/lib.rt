@@ -125,15 +125,9 @@ pub fn mode_of(ctrl0: u8) -> u8
 pub fn enabled(d: Device) -> bool
     ensures { λ r. ⌜ r ≡ enabled d ⌝ }
 {
-    let ctrl1 = d.regs.ctrl1;
-    let pin = d.txenpin;
-    if (ctrl1 >> 7) % 2 == 1 {
-        true
-    } else if (ctrl1 >> 6) % 2 == 1 {
-        true
-    } else {
-        pin
-    }
+    let txen = (d.regs.ctrl1 >> 7) % 2 == 1;
+    let tx1m = (d.regs.ctrl1 >> 6) % 2 == 1;
+    txen | tx1m | d.txenpin
 }
 
 // Filters or masks as the match takes them.
@@ -162,22 +156,10 @@ pub fn bank(patterns: [Pattern; 8]) -> [[u8; 6]; 8]
 fn registers_in_range(r: Registers) -> bool
     ensures { λ r'. ⌜ r' ≡ registersInRange r ⌝ }
 {
-    let filhit = r.filhit;
-    if r.errs <= 31 {
-        if r.mtag <= 3 {
-            if filhit == 0 {
-                true
-            } else if 8 <= filhit {
-                filhit <= 15
-            } else {
-                false
-            }
-        } else {
-            false
-        }
-    } else {
-        false
-    }
+    let errs = r.errs <= 31;
+    let mtag = r.mtag <= 3;
+    let filhit = (r.filhit == 0) | ((8 <= r.filhit) & (r.filhit <= 15));
+    errs & mtag & filhit
 }
 
 fn sending_in_range(d: Device) -> bool

@@ -1,13 +1,12 @@
 -- `chip::enabled` meets its contract. Assumes nothing.
+use mathlib.Core.Bool.{or-assoc}
 use Rattle.chip.specs.State.{enabled}
-use Rattle.base.specs.Pick.{picks, judges}
 use Rattle.chip.proofs.enabled.Statement.{statement}
 use Rattle.chip.proofs.enabled.Tie as tie
 
-returns-2 : tie.Need-returns-2
+returns : tie.Need-returns
 unfolding enabled
-returns-2 c = search (picks, judges)
+returns c = simp or-assoc
 
 pub enabled-spec : {M : Type 1} → statement M
-unfolding enabled
-enabled-spec = tie.close (tie.spec (λ c. search (picks, judges)) returns-2 (λ c. search (picks, judges)))
+enabled-spec = tie.close (tie.spec returns)

@@ -1,12 +1,12 @@
 -- `chip::registers_in_range` meets its contract. Assumes nothing.
+use mathlib.Core.Bool.{and-assoc}
 use Rattle.chip.specs.Proper.{registersInRange}
-use Rattle.base.specs.Pick.{picks, judges}
 use Rattle.chip.proofs.registers_in_range.Statement.{statement}
 use Rattle.chip.proofs.registers_in_range.Tie as tie
 
-pub registers-in-range-spec : {M : Type 1} → statement M
+returns : tie.Need-returns
 unfolding registersInRange
-registers-in-range-spec =
-    tie.close
-    (tie.spec (λ c. search (picks, judges)) (λ c. search (picks, judges)) (λ c. search (picks, judges)) (λ c. search (picks, judges))
-    (λ c. search (picks, judges)))
+returns c = simp and-assoc
+
+pub registers-in-range-spec : {M : Type 1} → statement M
+registers-in-range-spec = tie.close (tie.spec returns)
