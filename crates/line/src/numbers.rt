@@ -80,11 +80,7 @@ pub(crate) fn wrapped(word: &[u8]) -> u64
 pub(crate) fn is_byte(word: &[u8]) -> bool
     ensures { λ r. ⌜ r ≡ isByte (now (word .entry)) ⌝ }
 {
-    if word.len() == 2 {
-        is_number(word, 16)
-    } else {
-        false
-    }
+    (word.len() == 2) & is_number(word, 16)
 }
 
 pub(crate) fn byte(word: &[u8]) -> u8

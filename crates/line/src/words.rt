@@ -20,13 +20,7 @@ pub enum Choice {
 fn is_blank(b: u8) -> bool
     ensures { λ r. ⌜ r ≡ isBlank b ⌝ }
 {
-    if b == b' ' {
-        true
-    } else if b == b'\t' {
-        true
-    } else {
-        b == b'\r'
-    }
+    (b == b' ') | ((b == b'\t') | (b == b'\r'))
 }
 
 // How many bytes stand before the first `#`.
