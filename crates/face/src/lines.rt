@@ -32,7 +32,7 @@ fn is_blank(b: u8) -> bool {
 }
 
 fn leads(length: usize, b: u8) -> bool {
-    if length == 0 { is_blank(b) } else { false }
+    (length == 0) & is_blank(b)
 }
 
 // One byte more.

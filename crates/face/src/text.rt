@@ -27,15 +27,7 @@ pub(crate) fn hex(out: &mut [u8], at: usize, b: u8) -> usize {
 
 // Whether a byte shows as itself, also between quotes.
 fn is_plain(b: u8) -> bool {
-    if b < b' ' {
-        false
-    } else if b == b'"' {
-        false
-    } else if b == b'\\' {
-        false
-    } else {
-        b <= b'~'
-    }
+    (b' ' <= b) & (b != b'"') & (b != b'\\') & (b <= b'~')
 }
 
 // A byte so that it can be read: what a script brings may hold any.
