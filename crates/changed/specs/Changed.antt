@@ -64,7 +64,7 @@ receiveErrorMet d kind = with-counters (busError d (errBit kind)) (countedReceiv
 
 -- "Dominant after our flag: REC + 8."
 unfoldable pub dominantMet : Device → Device
-dominantMet d = unlessMonitor (d .acting) d (with-counters d (dominantBit (d .counters)))
+dominantMet d = with-counters d (unlessMonitor (d .acting) (d .counters) (dominantBit (d .counters)))
 
 -- "Counted transmit error: TEC + 8."
 unfoldable pub countedTransmitError : Counters → ℕ → Bool → Counters

@@ -9,7 +9,7 @@ use Rattle.base.specs.Pick.{pick}
 use Rattle.counters.specs.Rules.{zeroed, goodFrame, testRec, testTec}
 use Rattle.frame.specs.declared.Header.{Header}
 use Rattle.chip.specs.declared.Device.{Device}
-use Rattle.chip.specs.State.{fresh, normal, monitor, bor}
+use Rattle.chip.specs.State.{fresh, normal, bor}
 use Rattle.flags.specs.Flags.{raised, busError}
 use Rattle.flags.specs.Reset.{reset}
 use Rattle.transmit.specs.Transmit.{stopped, begun, sent, countedCompletion}
@@ -60,7 +60,7 @@ module _ (d : Device) where
       sent countedCompletion recessiveMet ticked pinSet reset
   after-counters (GoodFrame h acknowledged n) = refl
   after-counters (ReceiveError kind) = refl
-  after-counters DominantBit = pick-part (λ (e : Device). e .counters) (eqb (d .acting) monitor) _ _
+  after-counters DominantBit = refl
   after-counters (TransmitError kind counts) = refl
   after-counters Begun = refl
   after-counters Completed = refl

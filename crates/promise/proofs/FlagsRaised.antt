@@ -11,7 +11,7 @@ use Rattle.base.proofs.Booleans.{and-left, and-right}
 use Rattle.frame.specs.declared.Header.{Header}
 use Rattle.frame.specs.Received.{headerIn, dataIn}
 use Rattle.chip.specs.declared.Device.{Device}
-use Rattle.chip.specs.State.{fresh, modeOf, sleep, monitor, loopback, wakeup}
+use Rattle.chip.specs.State.{fresh, modeOf, sleep, loopback, wakeup}
 use Rattle.flags.specs.Flags.{raised, busError, rxtmp, rxfifo, buserr, txcplt}
 use Rattle.flags.specs.Reset.{reset}
 use Rattle.transmit.specs.Transmit.{stopped, begun, sent}
@@ -28,7 +28,7 @@ use Rattle.promise.specs.Meaning.{means}
 use Rattle.promise.specs.Sequence.{wire, Given, answered, shipped as step}
 use Rattle.promise.specs.Sums.{done, resetMet}
 use Rattle.promise.specs.Interrupts.{filterFlags, frameHit, givenFlags, ownFlags, modeFlags, wakeFlags, together}
-use Rattle.promise.proofs.Choices.{pick-keeps, pick-under}
+use Rattle.promise.proofs.Choices.{pick-under}
 use Rattle.promise.proofs.EventKinds.{by-happening}
 use Rattle.promise.proofs.Rising.{both-stay, sleeps, wakes, frame-rises}
 
@@ -74,7 +74,7 @@ module _ (d : Device) where
     unfolding after receiveErrorMet busError raised dominantMet transmitErrorMet stopped begun sent recessiveMet ticked pinSet reset fresh
     after-rises (GoodFrame h acknowledged n) = stays (d .regs .intf)
     after-rises (ReceiveError kind) = stays (bitOr (d .regs .intf) buserr)
-    after-rises DominantBit = pick-keeps (Rises []) (eqb (d .acting) monitor) d _ (stays (d .regs .intf)) (stays (d .regs .intf))
+    after-rises DominantBit = stays (d .regs .intf)
     after-rises (TransmitError kind counts) = stays (bitOr (d .regs .intf) buserr)
     after-rises Begun = stays (d .regs .intf)
     after-rises Completed = stays (bitOr (d .regs .intf) txcplt)

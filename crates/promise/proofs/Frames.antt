@@ -11,7 +11,7 @@ use Rattle.frame.specs.Received.{headerIn, dataIn}
 use Rattle.filter.specs.declared.Hit.{Hit}
 use Rattle.filter.specs.declared.Hit.the-variants.{Filter, Nothing}
 use Rattle.chip.specs.declared.Device.{Device}
-use Rattle.chip.specs.State.{fresh, filton, loopback, monitor, sleep, wakeup}
+use Rattle.chip.specs.State.{fresh, filton, loopback, sleep, wakeup}
 use Rattle.flags.specs.Flags.{raised, busError}
 use Rattle.flags.specs.Reset.{reset}
 use Rattle.transmit.specs.Transmit.{begun, stopped, sent}
@@ -158,8 +158,7 @@ module _ (d : Device) (l : Ledger) (h : Kept d l) where
       (frame-queue header payload (reason d header acknowledged payload)))
   done-agrees Completed payload possible range = completed-agrees payload (not-false (runs d) possible) range
   done-agrees (ReceiveError kind) payload possible range = leaves (ReceiveError kind) payload range refl
-  done-agrees DominantBit payload possible range =
-      leaves DominantBit payload range (pick-under (λ (e : Device). e .rx ≡ d .rx) (eqb (d .acting) monitor) _ _ (λ stands. refl) (λ counts. refl))
+  done-agrees DominantBit payload possible range = leaves DominantBit payload range refl
   done-agrees (TransmitError kind counted) payload possible range = leaves (TransmitError kind counted) payload range refl
   done-agrees Begun payload possible range = leaves Begun payload range refl
   done-agrees ArbitrationLost payload possible range = leaves ArbitrationLost payload range refl

@@ -11,7 +11,7 @@ use Rattle.base.specs.Bit.{byte}
 use Rattle.base.specs.Pick.{pick}
 use Rattle.frame.specs.declared.Header.{Header}
 use Rattle.chip.specs.declared.Device.{Device}
-use Rattle.chip.specs.State.{fresh, sleep, monitor, resetBit, wakeup}
+use Rattle.chip.specs.State.{fresh, sleep, resetBit, wakeup}
 use Rattle.flags.specs.Flags.{raised, busError}
 use Rattle.flags.specs.Reset.{reset}
 use Rattle.transmit.specs.Transmit.{canBegin, aborted, stopped}
@@ -53,10 +53,6 @@ module _ (d : Device) where
   quiet-same : outgoing (busQuiet d) ≡ outgoing d
   unfolding busQuiet changed raised
   quiet-same = pick-keeps (λ e. outgoing e ≡ outgoing d) (canSleep d) _ d refl refl
-
-  dominant-same : outgoing (dominantMet d) ≡ outgoing d
-  unfolding dominantMet
-  dominant-same = pick-keeps (λ e. outgoing e ≡ outgoing d) (eqb (d .acting) monitor) d _ refl refl
 
   frame-same : (header : Header) (payload : List ℕ) (what : Arrival) → outgoing (frameAfter d header payload what) ≡ outgoing d
   unfolding frameAfter heard arrived raised
@@ -131,10 +127,10 @@ module _ (d : Device) (o : Outbox) (h : Held d o) where
   echoed-held what = sent-held _ o (arrived-held _ _ what)
 
   after-held : (e : Event) → impossible d e ≡ false → Held (after d e) (pick (resetMet e) emptied (happened o e))
-  unfolding after impossible receiveErrorMet transmitErrorMet stopped busError raised recessiveMet ticked pinSet reset fresh
+  unfolding after impossible receiveErrorMet dominantMet transmitErrorMet stopped busError raised recessiveMet ticked pinSet reset fresh
   after-held (GoodFrame header acknowledged n) possible = h
   after-held (ReceiveError kind) possible = same-held d o h _ refl
-  after-held DominantBit possible = same-held d o h _ (dominant-same d)
+  after-held DominantBit possible = same-held d o h _ refl
   after-held (TransmitError kind counted) possible = stopped-held d o h _ refl refl
   after-held Begun possible = begun-held d o h (not-false (canBegin d) possible)
   after-held Completed possible = sent-held d o h
