@@ -10,7 +10,7 @@ use Rattle.base.specs.Pick.{pick}
 use Rattle.counters.specs.declared.Counters.{Counters}
 use Rattle.fifo.specs.declared.Fifo.{Fifo}
 use Rattle.fifo.specs.declared.Message.{Message}
-use Rattle.fifo.specs.Queue.{put}
+use Rattle.fifo.specs.Queue.{full, put}
 use Rattle.filter.specs.declared.Hit.{Hit}
 use Rattle.filter.specs.declared.Hit.the-variants.{Filter, Nothing}
 use Rattle.filter.specs.Lowest.{filhit}
@@ -28,7 +28,7 @@ pub grows : (t : Bool) (n m : ℕ) (s : Bool) → n ≤ m → pick t (leb 1 n) s
 grows true n m s more e = le-leb 1 m (omega (arith, leb-true 1 n e))
 grows false n m s more e = e
 
-pub put-grows : (t : Bool) (q : Fifo) (m : Message) → ltb (q .count) 8 ≡ t → q .count ≤ put q m .count
+pub put-grows : (t : Bool) (q : Fifo) (m : Message) → full q ≡ t → q .count ≤ put q m .count
 unfolding put
 put-grows true q m e = rw e (omega arith)
 put-grows false q m e = rw e (omega arith)

@@ -4,8 +4,9 @@ use mathlib.Core.Bool.{Bool, true, false, _&&_, false≢true}
 use mathlib.Core.List.{List, []}
 use Prim.Native.Nat.{ℕ, _<_}
 use borrow.Author.Tests.{leb-false, not-true, not-false}
-use lib.Dec.{eqb, leb}
+use lib.Dec.{eqb}
 use Rattle.base.specs.Pick.{pick}
+use Rattle.fifo.specs.Queue.{eightWait, full}
 use Rattle.frame.specs.declared.Header.{Header}
 use Rattle.frame.specs.Received.{headerIn, dataIn}
 use Rattle.filter.specs.declared.Hit.{Hit}
@@ -48,7 +49,7 @@ filters-room : (d : Device) (h : Header) (payload : List ℕ) → filtersAndRoom
 unfolding filtersAndRoom judgedBy
 filters-room d h payload = by-match d (filton d) (hit d h payload)
 
-room-queued : (t : Bool) (count : ℕ) → leb 8 count ≡ t → isQueued (pick t A5 Queued) ≡ true → count < 8
+room-queued : (t : Bool) (count : ℕ) → eightWait count ≡ t → isQueued (pick t A5 Queued) ≡ true → count < 8
 unfolding isQueued
 room-queued true count e queued = absurd (false≢true queued)
 room-queued false count e queued = leb-false 8 count e
@@ -57,7 +58,7 @@ room-queued false count e queued = leb-false 8 count e
 found-room : (d : Device) (t : Bool) → isQueued (pick t A4 (room d)) ≡ true → d .rx .count < 8
 unfolding isQueued room
 found-room d true queued = absurd (false≢true queued)
-found-room d false queued = room-queued (leb 8 (d .rx .count)) (d .rx .count) refl queued
+found-room d false queued = room-queued (full (d .rx)) (d .rx .count) refl queued
 
 reason-room : (a b c : Bool) (what : Arrival) → isQueued (pick a A1 (pick b A2 (pick c A3 what))) ≡ true → isQueued what ≡ true
 unfolding isQueued
