@@ -24,8 +24,7 @@ use Rattle.judged.specs.declared.Answer.the-variants.{Refused, Done, Arrived}
 use Rattle.judged.specs.Judged.{impossible, said, echo, reason}
 use Rattle.changed.specs.Changed.{reachesTemporary, frameAfter, echoed, arrival, after}
 use Rattle.bus.specs.Event.{numberOf}
-use Rattle.promise.specs.Sequence.{wire, Given, answered, Step, shipped as step}
-use Rattle.promise.specs.Sums.{done}
+use Rattle.promise.specs.Sequence.{wire, Given, answered, Step, shipped as step, done}
 use Rattle.promise.proofs.Choices.{pick-keeps, pick-under}
 use Rattle.promise.proofs.Steps.{by-event, doneEvent}
 

@@ -32,13 +32,13 @@ use Rattle.commands.specs.declared.Found.the-variants.{At, Nothing}
 use Rattle.commands.specs.Table.{rows, lookup}
 use Rattle.commands.specs.Verbs.{abortTransmission, clearTransmit, writeMessage}
 use Rattle.refused.specs.Refused.{lengthFits}
-use Rattle.promise.specs.Sequence.{Input, spi, wire, Step, shipped as step, run}
+use Rattle.promise.specs.Sequence.{Input, spi, wire, Step, shipped as step, done, run}
 use Rattle.promise.specs.Meaning.{clearing, other, meanings, commandMeans, means}
 use Rattle.promise.specs.Ledger.{Shows, Truly, hidden}
 use Rattle.promise.specs.Outbox.{Running, none, first, alone, Outbox, emptied, halted, aloneAfter, brought, remaining, commanded, happened, outboxAfter, outbox}
 use Rattle.promise.specs.Outbox.{Runs}
 use Rattle.promise.specs.Promises.{FieldsStandAsTheyArrived}
-use Rattle.promise.specs.Sums.{done, asks, resetAsked, resetMet}
+use Rattle.promise.specs.Sums.{asks, resetAsked, resetMet}
 use Rattle.promise.proofs.Each.{Each, each-more}
 use Rattle.promise.proofs.Among.{_and_, among-keeps}
 use Rattle.promise.proofs.Choices.{pick-keeps, pick-under}

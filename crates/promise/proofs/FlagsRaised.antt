@@ -24,8 +24,8 @@ use Rattle.judged.specs.declared.Answer.the-variants.{Done, Arrived}
 use Rattle.judged.specs.Judged.{impossible, runs}
 use Rattle.changed.specs.Changed.{after, reachesTemporary, frameAfter, heard, echoed, receiveErrorMet, dominantMet, transmitErrorMet, recessiveMet, ticked, pinSet}
 use Rattle.promise.specs.Meaning.{means}
-use Rattle.promise.specs.Sequence.{wire, Given, answered, shipped as step}
-use Rattle.promise.specs.Sums.{done, resetMet}
+use Rattle.promise.specs.Sequence.{wire, Given, answered, shipped as step, done}
+use Rattle.promise.specs.Sums.{resetMet}
 use Rattle.promise.specs.Interrupts.{frameHit, givenFlags, ownFlags, modeFlags, wakeFlags, together}
 use Rattle.promise.proofs.Choices.{pick-under}
 use Rattle.promise.proofs.EventKinds.{by-happening}

@@ -20,8 +20,8 @@ use Rattle.judged.specs.declared.Answer.the-variants.{Refused, Done, Arrived}
 use Rattle.changed.specs.Changed.{reachesTemporary}
 use Rattle.commands.specs.Verbs.{readIntf}
 use Rattle.promise.specs.Meaning.{Meaning, frame, reading, clearing, other, means}
-use Rattle.promise.specs.Sequence.{Input, spi, wire, Given, replied, answered, Step, Machine, run, along}
-use Rattle.promise.specs.Sums.{done, asks, resetAsked, resetMet}
+use Rattle.promise.specs.Sequence.{Input, spi, wire, Given, replied, answered, Step, Machine, done, run, along}
+use Rattle.promise.specs.Sums.{asks, resetAsked, resetMet}
 
 -- RXTMP for a frame that reaches the temporary buffer, RXFIFO for one that is queued, F0MESS or F1MESS for one whose lowest match is filter 0 or 1; 0 raises none
 abbrev pub arrivalFlags : Hit → Arrival → List ℕ

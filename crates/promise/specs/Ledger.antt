@@ -4,7 +4,6 @@ use mathlib.Core.Path.{_≡_}
 use mathlib.Core.Bool.{Bool, true, false, _&&_}
 use mathlib.Core.List.{List, [], _∷_, _++_, map}
 use Prim.Native.Nat.{ℕ, _-_, _%_}
-use lib.Dec.{eqb}
 use lib.ListN.{length, getD}
 use Rattle.base.specs.Bit.{byte, isSet}
 use Rattle.base.specs.Pick.{pick, among}
@@ -27,7 +26,7 @@ use Rattle.judged.specs.declared.Answer.the-variants.{Refused, Done, Arrived}
 use Rattle.commands.specs.Verbs.{readMessageWithTime, readMessage, readDataWithTime, readData}
 use Rattle.promise.specs.Numbers.{valuesGiven}
 use Rattle.promise.specs.Meaning.{Reason, Meaning, frame, reading, clearing, other, means}
-use Rattle.promise.specs.Sequence.{Input, spi, wire, Given, replied, answered, Machine, number, run, along}
+use Rattle.promise.specs.Sequence.{Input, spi, wire, Given, replied, answered, Machine, number, done, run, along}
 
 -- ---- the ledger: since the last clearing, the frames that 01 accepts, as they arrived, and the messages that reads took
 
@@ -97,8 +96,8 @@ saysQueued (answered (Arrived what)) = isQueued what
 
 abbrev pub told : Device → Meaning → Given → Entry
 told d (frame h payload earlier) given = pick (saysQueued given) (accepts (message d h payload)) nothing
-told d (reading verb) given = pick (eqb (number given) 0) takes nothing
-told d clearing given = pick (eqb (number given) 0) clears nothing
+told d (reading verb) given = pick (done given) takes nothing
+told d clearing given = pick (done given) clears nothing
 told d other given = nothing
 
 -- the bytes of a message that a read shows, by Table 5's numbers: 0x46 all, 0x48 "1 and 4 to 16", 0x4A "1 to 3 and 9 to 16", 0x4C "1 and 9 to 16"

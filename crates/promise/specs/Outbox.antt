@@ -16,8 +16,8 @@ use Rattle.events.specs.declared.Event.{Event}
 use Rattle.events.specs.declared.Event.the-variants.{GoodFrame, ReceiveError, DominantBit, TransmitError, Begun, Completed, ArbitrationLost, ElevenRecessive}
 use Rattle.events.specs.declared.Event.the-variants.{BusQuiet, BusActivity, Ticks, TxenPin, MrPin, Unknown}
 use Rattle.commands.specs.Verbs.{abortTransmission, clearTransmit, writeMessage}
-use Rattle.promise.specs.Sequence.{Input, spi, wire, Step, Machine, run, along}
-use Rattle.promise.specs.Sums.{done, asks, resetAsked, resetMet}
+use Rattle.promise.specs.Sequence.{Input, spi, wire, Step, Machine, done, run, along}
+use Rattle.promise.specs.Sums.{asks, resetAsked, resetMet}
 
 pub data Running : Type 0 where
   none : Running

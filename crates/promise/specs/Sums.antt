@@ -19,13 +19,9 @@ use Rattle.judged.specs.declared.Answer.the-variants.{Refused, Done, Arrived}
 use Rattle.changed.specs.Changed.{errBit, reachesTemporary}
 use Rattle.commands.specs.Verbs.{readErr, masterReset, resetTime, writeCtrl0, writeRec, writeTec}
 use Rattle.promise.specs.Numbers.{command}
-use Rattle.promise.specs.Sequence.{Input, spi, wire, Given, replied, answered, Machine, number, run, along}
+use Rattle.promise.specs.Sequence.{Input, spi, wire, Given, replied, answered, Machine, done, run, along}
 
 -- ---- what happened
-
--- an input that was not refused
-abbrev pub done : Given → Bool
-done given = eqb (number given) 0
 
 -- whether a transfer's command is for that
 abbrev pub asks : ℕ → List ℕ → Bool
