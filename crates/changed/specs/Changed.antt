@@ -63,8 +63,11 @@ unfoldable pub receiveErrorMet : Device → ErrorKind → Device
 receiveErrorMet d kind = with-counters (busError d (errBit kind)) (countedReceiveError (d .counters) (d .acting))
 
 -- "Dominant after our flag: REC + 8."
+abbrev pub countedDominant : Counters → ℕ → Counters
+countedDominant c acting = unlessMonitor acting c (dominantBit c)
+
 unfoldable pub dominantMet : Device → Device
-dominantMet d = with-counters d (unlessMonitor (d .acting) (d .counters) (dominantBit (d .counters)))
+dominantMet d = with-counters d (countedDominant (d .counters) (d .acting))
 
 -- "Counted transmit error: TEC + 8."
 unfoldable pub countedTransmitError : Counters → ℕ → Bool → Counters
