@@ -7,7 +7,6 @@ use lib.Dec.{eqb}
 use Rattle.counters.specs.declared.Counters.{Counters}
 use Rattle.fifo.specs.Queue.{full}
 use Rattle.frame.specs.declared.Header.{Header}
-use Rattle.frame.specs.Received.{headerIn, dataIn}
 use Rattle.filter.specs.declared.Hit.{Hit}
 use Rattle.filter.specs.declared.Hit.the-variants.{Filter, Nothing}
 use Rattle.chip.specs.declared.Device.{Device}
@@ -16,7 +15,7 @@ use Rattle.flags.specs.Flags.{raised}
 use Rattle.modes.specs.Modes.{changed, canSleep, busQuiet, busActivity}
 use Rattle.receive.specs.declared.Arrival.{Arrival}
 use Rattle.receive.specs.declared.Arrival.the-variants.{Queued, A5}
-use Rattle.receive.specs.Receive.{hit, room, passed, answered as filtered, filtersAndRoom}
+use Rattle.receive.specs.Receive.{hit, room, passed, answered as filtered, filtersAndRoom, ownHeader, ownData}
 use Rattle.events.specs.declared.Event.{Event}
 use Rattle.events.specs.declared.Event.the-variants.{GoodFrame, ReceiveError, DominantBit, TransmitError, Begun, Completed, ArbitrationLost, ElevenRecessive}
 use Rattle.events.specs.declared.Event.the-variants.{BusQuiet, BusActivity, Ticks, TxenPin, MrPin, Unknown}
@@ -76,7 +75,7 @@ module _ (P : Event → Bool → Given → Device → Type 0) (d : Device) (payl
   by-kind (GoodFrame h acknowledged n) possible = framed h acknowledged n (reason d h acknowledged payload) possible
   by-kind Completed possible =
       pick-under (λ a. Holds Completed (doneEvent d Completed payload a)) (eqb (d .acting) loopback) _ Done
-      (λ back. echoes _ possible back (reaches d (headerIn (d .buffer .bytes)) (dataIn (d .buffer .bytes))))
+      (λ back. echoes _ possible back (reaches d (ownHeader d) (ownData d)))
       (λ away. plain Completed possible)
   by-kind (ReceiveError kind) possible = plain (ReceiveError kind) possible
   by-kind DominantBit possible = plain DominantBit possible

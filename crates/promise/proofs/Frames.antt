@@ -8,7 +8,6 @@ use lib.Dec.{eqb}
 use Rattle.base.specs.Pick.{pick}
 use Rattle.fifo.specs.Queue.{eightWait, full}
 use Rattle.frame.specs.declared.Header.{Header}
-use Rattle.frame.specs.Received.{headerIn, dataIn}
 use Rattle.filter.specs.declared.Hit.{Hit}
 use Rattle.filter.specs.declared.Hit.the-variants.{Filter, Nothing}
 use Rattle.chip.specs.declared.Device.{Device}
@@ -19,7 +18,7 @@ use Rattle.transmit.specs.Transmit.{begun, stopped, sent}
 use Rattle.modes.specs.Modes.{changed, canSleep, busQuiet, busActivity}
 use Rattle.receive.specs.declared.Arrival.{Arrival}
 use Rattle.receive.specs.declared.Arrival.the-variants.{Queued, A1, A2, A3, A4, A5}
-use Rattle.receive.specs.Receive.{hit, room, passed, answered as judgedBy, filtersAndRoom, message, isQueued, queueAfter, arrived}
+use Rattle.receive.specs.Receive.{hit, room, passed, answered as judgedBy, filtersAndRoom, message, isQueued, queueAfter, arrived, ownHeader, ownData}
 use Rattle.events.specs.declared.Event.{Event}
 use Rattle.events.specs.declared.Event.the-variants.{GoodFrame, ReceiveError, DominantBit, TransmitError, Begun, Completed, ArbitrationLost, ElevenRecessive}
 use Rattle.events.specs.declared.Event.the-variants.{BusQuiet, BusActivity, Ticks, TxenPin, MrPin, Unknown}
@@ -127,20 +126,20 @@ module _ (d : Device) (l : Ledger) (h : Kept d l) where
   unfolding sent raised
   sent-queue e = refl
 
-  echoed-queue : (what : Arrival) → echoed d what .rx ≡ queueAfter (d .rx) (message d (headerIn (d .buffer .bytes)) (dataIn (d .buffer .bytes))) (isQueued what)
+  echoed-queue : (what : Arrival) → echoed d what .rx ≡ queueAfter (d .rx) (message d (ownHeader d) (ownData d)) (isQueued what)
   unfolding echoed sent arrived raised
   echoed-queue what = refl
 
   -- in loopback the own message arrives; elsewhere a completion brings no frame
   own : Arrival
-  own = filtersAndRoom d (headerIn (d .buffer .bytes)) (dataIn (d .buffer .bytes))
+  own = filtersAndRoom d (ownHeader d) (ownData d)
 
   by-mode : (t : Bool) (payload : List ℕ) → InRange (outcome d Completed payload (pick t (Arrived own) Done) .device)
-      → Agrees d l [] (pick t (frame (headerIn (d .buffer .bytes)) (dataIn (d .buffer .bytes)) []) other) (doneEvent d Completed payload (pick t (Arrived own) Done))
+      → Agrees d l [] (pick t (frame (ownHeader d) (ownData d) []) other) (doneEvent d Completed payload (pick t (Arrived own) Done))
   unfolding own arrival after
   by-mode true payload range =
-      frame-agrees d l h [] (headerIn (d .buffer .bytes)) (dataIn (d .buffer .bytes)) [] own (echoed d own)
-      (own-due (headerIn (d .buffer .bytes)) (dataIn (d .buffer .bytes))) (own-room (headerIn (d .buffer .bytes)) (dataIn (d .buffer .bytes))) range
+      frame-agrees d l h [] (ownHeader d) (ownData d) [] own (echoed d own)
+      (own-due (ownHeader d) (ownData d)) (own-room (ownHeader d) (ownData d)) range
       (echoed-queue own)
   by-mode false payload range = leaves Completed payload range (sent-queue d)
 

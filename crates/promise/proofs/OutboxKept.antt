@@ -19,8 +19,8 @@ use Rattle.flags.specs.Flags.{raised}
 use Rattle.flags.specs.Reset.{reset}
 use Rattle.transmit.specs.Transmit.{canBegin, begun, stopped, cleared, leftAlone, fifoAfter, sent}
 use Rattle.modes.specs.Modes.{changed, writeCtrl0}
-use Rattle.done.specs.Done.{messageWritten}
-use Rattle.promise.specs.Outbox.{Running, none, first, alone, Outbox, emptied, halted, aloneAfter, brought, remaining, Runs}
+use Rattle.done.specs.Done.{brought, messageWritten}
+use Rattle.promise.specs.Outbox.{Running, none, first, alone, Outbox, emptied, halted, aloneAfter, remaining, Runs}
 use Rattle.promise.proofs.Choices.{pick-keeps, pick-under}
 use Rattle.promise.proofs.Fits.{some-wait}
 use Rattle.promise.proofs.Kept.{taken-items, put-items}

@@ -28,12 +28,12 @@ use Rattle.commands.specs.declared.Row.{Row}
 use Rattle.commands.specs.Table.{rows, lookup}
 use Rattle.commands.specs.Verbs.{abortTransmission, clearTransmit, masterReset, writeMessage, writeCtrl0 as writesCtrl0}
 use Rattle.refused.specs.Refused.{findsFull}
-use Rattle.done.specs.Done.{registerChanged, messageTaken, entryTaken, receiveCleared, timeReset, filterWritten, maskWritten, recWritten, tecWritten, deeds, does}
+use Rattle.done.specs.Done.{registerChanged, messageTaken, entryTaken, receiveCleared, timeReset, brought, filterWritten, maskWritten, recWritten, tecWritten, deeds, does}
 use Rattle.promise.specs.Promises.{OwnMessagesAreThoseWritten}
 use Rattle.promise.specs.Sequence.{Input, spi, wire, Step, shipped as step, number, run}
 use Rattle.promise.specs.Numbers.{row, firstSaying}
 use Rattle.promise.specs.Sums.{resetMet}
-use Rattle.promise.specs.Outbox.{Outbox, emptied, halted, aloneAfter, brought, commanded, happened, outboxAfter, outbox}
+use Rattle.promise.specs.Outbox.{Outbox, emptied, halted, aloneAfter, commanded, happened, outboxAfter, outbox}
 use Rattle.promise.proofs.Among.{_and_, among-keeps, none-of}
 use Rattle.promise.proofs.Choices.{pick-keeps, or-left}
 use Rattle.promise.proofs.Steps.{keeps, by-transfer}
