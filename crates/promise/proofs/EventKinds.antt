@@ -5,6 +5,8 @@ use mathlib.Core.List.{List}
 use Prim.Native.Nat.{ℕ}
 use lib.Dec.{eqb}
 use Rattle.counters.specs.declared.Counters.{Counters}
+use Rattle.fifo.specs.declared.Fifo.{Fifo}
+use Rattle.fifo.specs.declared.Message.{Message}
 use Rattle.fifo.specs.Queue.{full}
 use Rattle.frame.specs.declared.Header.{Header}
 use Rattle.filter.specs.declared.Hit.{Hit}
@@ -26,6 +28,7 @@ use Rattle.bus.specs.Event.{numberOf}
 use Rattle.promise.specs.Sequence.{wire, Given, answered, Step, shipped as step, done}
 use Rattle.promise.proofs.Choices.{pick-keeps, pick-under}
 use Rattle.promise.proofs.Steps.{by-event, doneEvent}
+use Rattle.promise.proofs.OutboxKept.{outgoing}
 
 -- ---- a frame that the mode takes reaches the temporary buffer
 
@@ -45,10 +48,10 @@ reaches d h bytes =
     (passed-reaches d (hit d h bytes))
     (room-reaches d)
 
--- ---- sleep and waking leave the time tag, the counters and ERR
+-- ---- sleep and waking leave the time tag, the counters, ERR, what the outbox speaks of and the receive FIFO
 
-abbrev pub unmoved : Device → ℕ × Counters × ℕ
-unmoved d = (d .time, d .counters, d .regs .errs)
+abbrev pub unmoved : Device → ℕ × Counters × ℕ × (Fifo × Message × ℕ) × Fifo
+unmoved d = (d .time, d .counters, d .regs .errs, outgoing d, d .rx)
 
 pub quiet-unmoved : (d : Device) → unmoved (busQuiet d) ≡ unmoved d
 unfolding busQuiet changed raised

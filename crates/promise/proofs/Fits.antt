@@ -14,11 +14,11 @@ use Rattle.fifo.specs.Queue.{full, put}
 use Rattle.filter.specs.declared.Hit.{Hit}
 use Rattle.filter.specs.declared.Hit.the-variants.{Filter, Nothing}
 use Rattle.filter.specs.Lowest.{filhit}
+use Rattle.chip.specs.Proper.{filhitFits, sendingFits, actingFits}
 use Rattle.chip.specs.State.{modeOf, sleep, monitor, initialization, idle, alone}
 use Rattle.events.specs.declared.ErrorKind.{ErrorKind}
 use Rattle.events.specs.declared.ErrorKind.the-variants.{Stuff, Ack, Crc, Form, Bit}
 use Rattle.changed.specs.Changed.{errBit}
-use Rattle.promise.proofs.Ranges.{filhitFits, sendingFits, actingFits}
 
 abbrev pub Grouped : Counters → Type 0
 Grouped c = leb (c .groups) 128 ≡ true

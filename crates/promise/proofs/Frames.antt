@@ -11,11 +11,10 @@ use Rattle.frame.specs.declared.Header.{Header}
 use Rattle.filter.specs.declared.Hit.{Hit}
 use Rattle.filter.specs.declared.Hit.the-variants.{Filter, Nothing}
 use Rattle.chip.specs.declared.Device.{Device}
-use Rattle.chip.specs.State.{fresh, filton, loopback, sleep, wakeup}
+use Rattle.chip.specs.State.{fresh, filton, loopback}
 use Rattle.flags.specs.Flags.{raised, busError}
 use Rattle.flags.specs.Reset.{reset}
 use Rattle.transmit.specs.Transmit.{begun, stopped, sent}
-use Rattle.modes.specs.Modes.{changed, canSleep, busQuiet, busActivity}
 use Rattle.receive.specs.declared.Arrival.{Arrival}
 use Rattle.receive.specs.declared.Arrival.the-variants.{Queued, A1, A2, A3, A4, A5}
 use Rattle.receive.specs.Receive.{hit, room, passed, answered as judgedBy, filtersAndRoom, message, isQueued, queueAfter, arrived, ownHeader, ownData}
@@ -31,6 +30,7 @@ use Rattle.promise.specs.Meaning.{frame, other, fromTheBus, means}
 use Rattle.promise.specs.Ledger.{Ledger, missed, due, hidden}
 use Rattle.promise.proofs.Choices.{pick-under}
 use Rattle.promise.proofs.Kept.{Kept, Agrees, left-waits, other-agrees, clear-agrees, frame-agrees}
+use Rattle.promise.proofs.EventKinds.{quiet-unmoved, activity-unmoved}
 use Rattle.promise.proofs.EventsFit.{event-in}
 use Rattle.promise.proofs.Ranges.{InRange, ranges-proper}
 use Rattle.promise.proofs.Steps.{refusedEvent, doneEvent}
@@ -99,21 +99,13 @@ module _ (d : Device) (l : Ledger) (h : Kept d l) where
 
   -- ---- the queue after it
 
-  activity-queue : busActivity d .rx ≡ d .rx
-  unfolding busActivity changed raised
-  activity-queue = pick-under (λ (e : Device). e .rx ≡ d .rx) (eqb (d .acting) sleep && wakeup d) _ _ (λ wakes. refl) (λ stays. refl)
-
-  quiet-queue : busQuiet d .rx ≡ d .rx
-  unfolding busQuiet changed raised
-  quiet-queue = pick-under (λ (e : Device). e .rx ≡ d .rx) (canSleep d) _ _ (λ sleeps. refl) (λ stays. refl)
-
   frame-queue : (header : Header) (payload : List ℕ) (what : Arrival)
       → frameAfter d header payload what .rx ≡ queueAfter (d .rx) (message d header payload) (isQueued what)
   unfolding frameAfter heard arrived raised queueAfter
   frame-queue header payload what =
       pick-under (λ (e : Device). e .rx ≡ queueAfter (d .rx) (message d header payload) (isQueued what)) (reachesTemporary what) _ _
       (λ reaches. refl)
-      (λ stays. rw (unreached what stays) activity-queue)
+      (λ stays. rw (unreached what stays) (ap (λ x. x .4) (activity-unmoved d)))
 
   -- ---- each event
 
@@ -163,8 +155,8 @@ module _ (d : Device) (l : Ledger) (h : Kept d l) where
   done-agrees Begun payload possible range = leaves Begun payload range refl
   done-agrees ArbitrationLost payload possible range = leaves ArbitrationLost payload range refl
   done-agrees ElevenRecessive payload possible range = leaves ElevenRecessive payload range refl
-  done-agrees BusQuiet payload possible range = leaves BusQuiet payload range quiet-queue
-  done-agrees BusActivity payload possible range = leaves BusActivity payload range activity-queue
+  done-agrees BusQuiet payload possible range = leaves BusQuiet payload range (ap (λ x. x .4) (quiet-unmoved d))
+  done-agrees BusActivity payload possible range = leaves BusActivity payload range (ap (λ x. x .4) (activity-unmoved d))
   done-agrees (Ticks count) payload possible range = leaves (Ticks count) payload range refl
   done-agrees (TxenPin level) payload possible range = leaves (TxenPin level) payload range refl
   done-agrees MrPin payload possible range = clear-agrees d l h [] (reset d) (answered Done) range refl refl refl

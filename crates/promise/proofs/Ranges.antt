@@ -1,27 +1,16 @@
 -- The ranges that make a device proper, part by part. Assumes nothing.
 use mathlib.Core.Path.{_≡_, refl}
-use mathlib.Core.Bool.{Bool, true, _&&_, _||_}
+use mathlib.Core.Bool.{true}
 use Prim.Native.Nat.{ℕ, _<_, _≤_}
 use native.Mathlib.Omega.{arith}
 use borrow.Author.Tests.{lt-ltb, le-leb, ltb-true, leb-true, leb-false}
-use lib.Dec.{eqb, leb, ltb}
-use Rattle.base.specs.Pick.{pick}
+use lib.Dec.{leb, ltb}
 use Rattle.base.proofs.Booleans.{and-left, and-right, pick-under}
 use Rattle.fifo.specs.declared.Fifo.{Fifo}
 use Rattle.fifo.specs.declared.Message.{Message}
 use Rattle.fifo.specs.Queue.{empty, full, isEmpty, put, take, inRange}
 use Rattle.chip.specs.declared.Device.{Device}
-use Rattle.chip.specs.Proper.{registersInRange, sendingInRange, actingInRange, proper}
-use Rattle.chip.specs.State.{modeOf, sleep, initialization, firstInFifo, alone}
-
-abbrev pub filhitFits : ℕ → Bool
-filhitFits n = eqb n 0 || (leb 8 n && leb n 15)
-
-abbrev pub sendingFits : ℕ → ℕ → Bool
-sendingFits sending waiting = pick (eqb sending firstInFifo) (leb 1 waiting) (leb sending alone)
-
-abbrev pub actingFits : ℕ → ℕ → Bool
-actingFits acting ctrl0 = pick (eqb (modeOf ctrl0) sleep) (leb acting initialization) (eqb acting (modeOf ctrl0))
+use Rattle.chip.specs.Proper.{filhitFits, registersInRange, sendingFits, sendingInRange, actingFits, actingInRange, proper}
 
 -- One range for each part, in this order: a change of other parts leaves it as it is.
 abbrev pub Ranges : Fifo → Fifo → Fifo → ℕ → ℕ → ℕ → ℕ → ℕ → ℕ → ℕ → Type 0
