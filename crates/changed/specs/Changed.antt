@@ -7,7 +7,6 @@ use Rattle.base.specs.Pick.{pick}
 use Rattle.counters.specs.declared.Counters.{Counters}
 use Rattle.counters.specs.Rules.{receiveError, dominantBit, goodFrame, transmitError, elevenRecessive}
 use Rattle.frame.specs.declared.Header.{Header}
-use Rattle.frame.specs.Received.{headerIn, dataIn}
 use Rattle.chip.specs.declared.Device.{Device}
 use Rattle.chip.specs.Parts.{with-counters, with-time, with-txenpin}
 use Rattle.chip.specs.State.{normal, unlessMonitor, bor}
@@ -15,7 +14,7 @@ use Rattle.receive.specs.declared.Arrival.{Arrival}
 use Rattle.receive.specs.declared.Arrival.the-variants.{Queued, A1, A2, A3, A4, A5}
 use Rattle.flags.specs.Flags.{busError}
 use Rattle.modes.specs.Modes.{busQuiet, busActivity}
-use Rattle.receive.specs.Receive.{arrived}
+use Rattle.receive.specs.Receive.{arrived, ownHeader, ownData}
 use Rattle.flags.specs.Reset.{reset}
 use Rattle.transmit.specs.Transmit.{begun, stopped, sent}
 use Rattle.events.specs.declared.ErrorKind.{ErrorKind}
@@ -63,8 +62,11 @@ unfoldable pub receiveErrorMet : Device → ErrorKind → Device
 receiveErrorMet d kind = with-counters (busError d (errBit kind)) (countedReceiveError (d .counters) (d .acting))
 
 -- "Dominant after our flag: REC + 8."
+abbrev pub countedDominant : Counters → ℕ → Counters
+countedDominant c acting = unlessMonitor acting c (dominantBit c)
+
 unfoldable pub dominantMet : Device → Device
-dominantMet d = unlessMonitor (d .acting) d (with-counters d (dominantBit (d .counters)))
+dominantMet d = with-counters d (countedDominant (d .counters) (d .acting))
 
 -- "Counted transmit error: TEC + 8."
 unfoldable pub countedTransmitError : Counters → ℕ → Bool → Counters
@@ -77,7 +79,7 @@ transmitErrorMet d kind counted =
 
 -- in loopback the own message arrives, with the time tag that the history gets too
 unfoldable pub echoed : Device → Arrival → Device
-echoed d what = sent (arrived d (headerIn (d .buffer .bytes)) (dataIn (d .buffer .bytes)) what)
+echoed d what = sent (arrived d (ownHeader d) (ownData d) what)
 
 -- "The 128th group of eleven recessive bits ends bus off, both counters at 0, under 000's rule for automatic recovery."
 unfoldable pub recessiveMet : Device → Device

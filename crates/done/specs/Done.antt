@@ -7,6 +7,7 @@ use lib.ListN.{length, drop, set}
 use Rattle.base.specs.Bit.{byte}
 use Rattle.base.specs.Pick.{pick, among}
 use Rattle.counters.specs.Rules.{testRec, testTec}
+use Rattle.fifo.specs.declared.Message.{Message}
 use Rattle.fifo.specs.Queue.{empty, put, take}
 use Rattle.sent.specs.Sent.{messageOf, stored}
 use Rattle.chip.specs.declared.Device.{Device}
@@ -63,11 +64,13 @@ receiveCleared d = with-rx d empty
 unfoldable pub timeReset : Device → Device
 timeReset d = with-time d 0
 
+-- the message of 0x12, as it is kept
+abbrev pub brought : List ℕ → Message
+brought bytes = record { bytes = stored (messageOf (drop 1 bytes) .message) }
+
 -- 0x12: the message comes last in the transmit FIFO. Without a command byte there is none.
 unfoldable pub messageWritten : Device → List ℕ → Device
-messageWritten d bytes =
-    pick (eqb (length bytes) 0) d
-    (with-tx d (put (d .tx) (record { bytes = stored (messageOf (drop 1 bytes) .message) })))
+messageWritten d bytes = pick (eqb (length bytes) 0) d (with-tx d (put (d .tx) (brought bytes)))
 
 unfoldable pub filterWritten : Device → ℕ → Pattern → Device
 filterWritten d k p = with-filters d (set (d .filters) (k % 8) p)

@@ -1,11 +1,11 @@
 -- What waits after a message was put or taken. Assumes nothing.
 use mathlib.Core.Path.{_≡_, ap, _∙_}
 use mathlib.Core.List.{List, [], _∷_, _++_}
-use Prim.Native.Nat.{ℕ, suc, _+_, _-_, _%_, _<_}
+use Prim.Native.Nat.{ℕ, suc, _-_, _<_}
 use native.Mathlib.Omega.{arith}
-use native.Mathlib.Nat.{add-zero, zero-add}
+use native.Mathlib.Nat.{zero-add}
 use native.Mathlib.Numerals.{add-one}
-use borrow.Author.Tests.{lt-ltb, ne-eqb}
+use borrow.Author.Tests.{lt-leb, ne-eqb}
 use lib.ListN.{length, getD, set}
 use lib.Seq.{getD-set-same, getD-set-other}
 use Rattle.base.proofs.Lists.{tabulate-same, tabulate-more, shift}
@@ -17,7 +17,7 @@ use Rattle.fifo.specs.Queue.{absent, place, waiting, put, take, next}
 pub put-waits : (q : Fifo) (m : Message) → length (q .items) ≡ 8 → q .count < 8 → waiting (put q m) ≡ waiting q ++ (m ∷ [])
 unfolding put
 put-waits q m long room =
-    rw (lt-ltb (q .count) 8 room, add-one (q .count))
+    rw (lt-leb 8 (q .count) room, add-one (q .count))
     (tabulate-more (λ (k : ℕ). getD (set (q .items) (place q (q .count)) m) (place q k) absent) 0 (q .count)
     ∙ rw (zero-add (q .count), getD-set-same (q .items) (place q (q .count)) m absent (omega arith))
     (ap (λ (l : List Message). l ++ (m ∷ []))
@@ -29,7 +29,6 @@ unfolding take next
 take-waits q n some =
     let less : suc n - 1 ≡ n = omega arith in
     rw (ne-eqb (q .count) 0 (λ none. omega arith), some, less)
-    (rw (add-zero (q .first))
-    (ap (λ (l : List Message). getD (q .items) (q .first % 8) absent ∷ l)
+    (ap (λ (l : List Message). next q ∷ l)
     (shift (λ (k : ℕ). getD (q .items) (place q k) absent) 0 n
-    ∙ tabulate-same _ _ 0 n (λ k p below. ap (λ (i : ℕ). getD (q .items) i absent) (omega arith)))))
+    ∙ tabulate-same _ _ 0 n (λ k p below. ap (λ (i : ℕ). getD (q .items) i absent) (omega arith))))

@@ -44,19 +44,18 @@ isEmpty q = noneWaits (q .count)
 -- A message comes last; where eight wait, nothing is stored.
 unfoldable pub put : Fifo → Message → Fifo
 put q m =
-    pick (ltb (q .count) 8)
+    pick (full q) q
     (record { items = set (q .items) (place q (q .count)) m; first = q .first; count = q .count + 1 })
-    q
 
 -- The oldest is taken off.
 unfoldable pub take : Fifo → Fifo
 take q =
-    pick (eqb (q .count) 0) q
+    pick (isEmpty q) q
     (record { items = q .items; first = place q 1; count = q .count - 1 })
 
 -- The oldest.
 unfoldable pub next : Fifo → Message
-next q = getD (q .items) (q .first % 8) absent
+next q = getD (q .items) (place q 0) absent
 
 unfoldable pub inRange : Fifo → Bool
 inRange q = ltb (q .first) 8 && leb (q .count) 8

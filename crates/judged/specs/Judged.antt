@@ -6,12 +6,11 @@ use lib.Dec.{eqb}
 use Rattle.base.specs.Pick.{pick}
 use Rattle.frame.specs.declared.Header.{Header}
 use Rattle.frame.specs.Length.{possible, dataFits}
-use Rattle.frame.specs.Received.{headerIn, dataIn}
 use Rattle.chip.specs.declared.Device.{Device}
 use Rattle.chip.specs.State.{loopback, monitor, sleep, initialization, idle}
 use Rattle.receive.specs.declared.Arrival.{Arrival}
 use Rattle.receive.specs.declared.Arrival.the-variants.{A1, A2, A3}
-use Rattle.receive.specs.Receive.{filtersAndRoom}
+use Rattle.receive.specs.Receive.{filtersAndRoom, ownHeader, ownData}
 use Rattle.transmit.specs.Transmit.{canBegin}
 use Rattle.judged.specs.declared.Answer.{Answer}
 use Rattle.judged.specs.declared.Answer.the-variants.{Done, Arrived}
@@ -70,10 +69,7 @@ reason d h acknowledged bytes =
 
 -- "In loopback each completed own message arrives as a good frame: the completion's answer also says Queued, A4 or A5"
 unfoldable pub echo : Device → Answer
-echo d =
-    pick (eqb (d .acting) loopback)
-    (Arrived (filtersAndRoom d (headerIn (d .buffer .bytes)) (dataIn (d .buffer .bytes))))
-    Done
+echo d = pick (eqb (d .acting) loopback) (Arrived (filtersAndRoom d (ownHeader d) (ownData d))) Done
 
 -- what an event says that isn't refused
 unfoldable pub said : Device → Event → List ℕ → Answer

@@ -4,12 +4,12 @@ use mathlib.Core.Bool.{true}
 use mathlib.Core.List.{List}
 use Prim.Native.Nat.{ℕ}
 use borrow.Author.Tests.{eqb-true}
-use lib.Dec.{eqb, leb, ltb}
+use lib.Dec.{eqb, leb}
 use lib.ListN.{length}
 use Rattle.base.specs.Bit.{byte}
 use Rattle.counters.specs.Rules.{testRec, testTec}
 use Rattle.fifo.specs.declared.Message.{Message}
-use Rattle.fifo.specs.Queue.{empty, put}
+use Rattle.fifo.specs.Queue.{empty, full, put}
 use Rattle.filter.specs.Lowest.{filhit}
 use Rattle.chip.specs.declared.Device.{Device}
 use Rattle.chip.specs.declared.Registers.{Registers}
@@ -48,7 +48,7 @@ module _ (d : Device) (h : InRange d) where
     h .4,
     h .5,
     h .6,
-    grows (eqb (d .sending) firstInFifo) (d .tx .count) (put (d .tx) m .count) (leb (d .sending) alone) (put-grows (ltb (d .tx .count) 8) (d .tx) m refl) (h .7),
+    grows (eqb (d .sending) firstInFifo) (d .tx .count) (put (d .tx) m .count) (leb (d .sending) alone) (put-grows (full (d .tx)) (d .tx) m refl) (h .7),
     h .8,
   )
 

@@ -1,26 +1,24 @@
 -- REC, TEC, bus off and its groups along a sequence. Assumes nothing.
 use mathlib.Core.Path.{_≡_, refl, ap, _∙_}
-use mathlib.Core.Bool.{Bool, true, false, _&&_}
 use mathlib.Core.List.{List}
 use Prim.Native.Nat.{ℕ}
-use lib.Dec.{eqb}
 use Rattle.base.specs.Bit.{byte}
 use Rattle.base.specs.Pick.{pick}
-use Rattle.counters.specs.Rules.{zeroed, goodFrame, testRec, testTec}
+use Rattle.counters.specs.Rules.{zeroed, testRec, testTec}
 use Rattle.frame.specs.declared.Header.{Header}
 use Rattle.chip.specs.declared.Device.{Device}
-use Rattle.chip.specs.State.{fresh, normal, monitor, bor}
+use Rattle.chip.specs.State.{fresh, bor}
 use Rattle.flags.specs.Flags.{raised, busError}
 use Rattle.flags.specs.Reset.{reset}
-use Rattle.transmit.specs.Transmit.{stopped, begun, sent, countedCompletion}
+use Rattle.transmit.specs.Transmit.{stopped, begun, sent}
 use Rattle.receive.specs.declared.Arrival.{Arrival}
 use Rattle.receive.specs.Receive.{arrived}
 use Rattle.events.specs.declared.Event.{Event}
 use Rattle.events.specs.declared.Event.the-variants.{GoodFrame, ReceiveError, DominantBit, TransmitError, Begun, Completed, ArbitrationLost, ElevenRecessive}
 use Rattle.events.specs.declared.Event.the-variants.{BusQuiet, BusActivity, Ticks, TxenPin, MrPin, Unknown}
 use Rattle.judged.specs.declared.Answer.the-variants.{Done}
-use Rattle.changed.specs.Changed.{after, reachesTemporary, frameAfter, heard, countedFrame, echoed, receiveErrorMet, countedReceiveError, dominantMet, transmitErrorMet}
-use Rattle.changed.specs.Changed.{countedTransmitError, recessiveMet, ticked, pinSet}
+use Rattle.changed.specs.Changed.{after, reachesTemporary, frameAfter, heard, countedFrame, echoed, receiveErrorMet, dominantMet, transmitErrorMet}
+use Rattle.changed.specs.Changed.{recessiveMet, ticked, pinSet}
 use Rattle.commands.specs.Verbs.{writeRec, writeTec}
 use Rattle.promise.specs.Promises.{CountersAreTheRulesSum}
 use Rattle.promise.specs.Sequence.{Input, spi, wire, answered, Step, shipped as step}
@@ -30,13 +28,6 @@ use Rattle.promise.proofs.Choices.{pick-part}
 use Rattle.promise.proofs.Steps.{keeps}
 use Rattle.promise.proofs.Parts.{Watched, by-command}
 use Rattle.promise.proofs.EventKinds.{quiet-unmoved, activity-unmoved, by-happening}
-
--- two questions in turn are one
-frame-pick : {A : Type 0} (taken normally : Bool) (x y : A) → pick taken (pick normally x y) y ≡ pick (normally && taken) x y
-frame-pick true true x y = refl
-frame-pick true false x y = refl
-frame-pick false true x y = refl
-frame-pick false false x y = refl
 
 module _ (d : Device) where
   abbrev Counts : Input → Step → Type 0
@@ -56,11 +47,10 @@ module _ (d : Device) where
       (λ v none. rw (none writeRec refl, none writeTec refl))
 
   after-counters : (e : Event) → after d e .counters ≡ countedEvent (d .acting) (bor d) (d .counters) e (answered Done)
-  unfolding after receiveErrorMet countedReceiveError busError raised dominantMet transmitErrorMet countedTransmitError stopped begun
-      sent countedCompletion recessiveMet ticked pinSet reset
+  unfolding after receiveErrorMet busError raised dominantMet transmitErrorMet stopped begun sent recessiveMet ticked pinSet reset
   after-counters (GoodFrame h acknowledged n) = refl
   after-counters (ReceiveError kind) = refl
-  after-counters DominantBit = pick-part (λ (e : Device). e .counters) (eqb (d .acting) monitor) _ _
+  after-counters DominantBit = refl
   after-counters (TransmitError kind counts) = refl
   after-counters Begun = refl
   after-counters Completed = refl
@@ -74,15 +64,14 @@ module _ (d : Device) where
   after-counters Unknown = refl
 
   frame-counters : (h : Header) (payload : List ℕ) (what : Arrival)
-      → frameAfter d h payload what .counters ≡ pick (eqb (d .acting) normal && reachesTemporary what) (goodFrame (d .counters)) (d .counters)
-  unfolding frameAfter heard countedFrame
+      → frameAfter d h payload what .counters ≡ pick (reachesTemporary what) (countedFrame (d .counters) (d .acting)) (d .counters)
+  unfolding frameAfter heard
   frame-counters h payload what =
       pick-part (λ (e : Device). e .counters) (reachesTemporary what) _ _
-      ∙ ap (λ c. pick (reachesTemporary what) (pick (eqb (d .acting) normal) (goodFrame (d .counters)) (d .counters)) c) (ap (λ x. x .1) (activity-unmoved d))
-      ∙ frame-pick (reachesTemporary what) (eqb (d .acting) normal) (goodFrame (d .counters)) (d .counters)
+      ∙ ap (λ c. pick (reachesTemporary what) (countedFrame (d .counters) (d .acting)) c) (ap (λ x. x .1) (activity-unmoved d))
 
   on-wire : (e : Event) (payload : List ℕ) → Counts (wire e payload) (step d (wire e payload))
-  unfolding echoed sent countedCompletion arrived raised
+  unfolding echoed sent arrived raised
   on-wire e payload =
       by-happening (λ e ok given (after : Device). after .counters ≡ pick ok (countedEvent (d .acting) (bor d) (d .counters) e given) (d .counters)) d payload
       (λ e n. refl)

@@ -5,9 +5,10 @@ use mathlib.Core.List.{List}
 use Prim.Native.Nat.{ℕ}
 use lib.Dec.{eqb}
 use Rattle.counters.specs.declared.Counters.{Counters}
+use Rattle.fifo.specs.declared.Fifo.{Fifo}
+use Rattle.fifo.specs.declared.Message.{Message}
 use Rattle.fifo.specs.Queue.{full}
 use Rattle.frame.specs.declared.Header.{Header}
-use Rattle.frame.specs.Received.{headerIn, dataIn}
 use Rattle.filter.specs.declared.Hit.{Hit}
 use Rattle.filter.specs.declared.Hit.the-variants.{Filter, Nothing}
 use Rattle.chip.specs.declared.Device.{Device}
@@ -16,7 +17,7 @@ use Rattle.flags.specs.Flags.{raised}
 use Rattle.modes.specs.Modes.{changed, canSleep, busQuiet, busActivity}
 use Rattle.receive.specs.declared.Arrival.{Arrival}
 use Rattle.receive.specs.declared.Arrival.the-variants.{Queued, A5}
-use Rattle.receive.specs.Receive.{hit, room, passed, answered as filtered, filtersAndRoom}
+use Rattle.receive.specs.Receive.{hit, room, passed, answered as filtered, filtersAndRoom, ownHeader, ownData}
 use Rattle.events.specs.declared.Event.{Event}
 use Rattle.events.specs.declared.Event.the-variants.{GoodFrame, ReceiveError, DominantBit, TransmitError, Begun, Completed, ArbitrationLost, ElevenRecessive}
 use Rattle.events.specs.declared.Event.the-variants.{BusQuiet, BusActivity, Ticks, TxenPin, MrPin, Unknown}
@@ -24,10 +25,10 @@ use Rattle.judged.specs.declared.Answer.the-variants.{Refused, Done, Arrived}
 use Rattle.judged.specs.Judged.{impossible, said, echo, reason}
 use Rattle.changed.specs.Changed.{reachesTemporary, frameAfter, echoed, arrival, after}
 use Rattle.bus.specs.Event.{numberOf}
-use Rattle.promise.specs.Sequence.{wire, Given, answered, Step, shipped as step}
-use Rattle.promise.specs.Sums.{done}
+use Rattle.promise.specs.Sequence.{wire, Given, answered, Step, shipped as step, done}
 use Rattle.promise.proofs.Choices.{pick-keeps, pick-under}
 use Rattle.promise.proofs.Steps.{by-event, doneEvent}
+use Rattle.promise.proofs.OutboxKept.{outgoing}
 
 -- ---- a frame that the mode takes reaches the temporary buffer
 
@@ -47,10 +48,10 @@ reaches d h bytes =
     (passed-reaches d (hit d h bytes))
     (room-reaches d)
 
--- ---- sleep and waking leave the time tag, the counters and ERR
+-- ---- sleep and waking leave the time tag, the counters, ERR, what the outbox speaks of and the receive FIFO
 
-abbrev pub unmoved : Device → ℕ × Counters × ℕ
-unmoved d = (d .time, d .counters, d .regs .errs)
+abbrev pub unmoved : Device → ℕ × Counters × ℕ × (Fifo × Message × ℕ) × Fifo
+unmoved d = (d .time, d .counters, d .regs .errs, outgoing d, d .rx)
 
 pub quiet-unmoved : (d : Device) → unmoved (busQuiet d) ≡ unmoved d
 unfolding busQuiet changed raised
@@ -77,7 +78,7 @@ module _ (P : Event → Bool → Given → Device → Type 0) (d : Device) (payl
   by-kind (GoodFrame h acknowledged n) possible = framed h acknowledged n (reason d h acknowledged payload) possible
   by-kind Completed possible =
       pick-under (λ a. Holds Completed (doneEvent d Completed payload a)) (eqb (d .acting) loopback) _ Done
-      (λ back. echoes _ possible back (reaches d (headerIn (d .buffer .bytes)) (dataIn (d .buffer .bytes))))
+      (λ back. echoes _ possible back (reaches d (ownHeader d) (ownData d)))
       (λ away. plain Completed possible)
   by-kind (ReceiveError kind) possible = plain (ReceiveError kind) possible
   by-kind DominantBit possible = plain DominantBit possible

@@ -84,7 +84,8 @@ module _ (d : Device) (h : InRange d) where
 
   dominant-in : InRange (dominantMet d)
   unfolding dominantMet dominantBit
-  dominant-in = pick-under InRange (eqb (d .acting) monitor) _ _ (λ stands. h) (λ counts. h)
+  dominant-in =
+      (h .0, h .1, h .2, pick-under Grouped (eqb (d .acting) monitor) _ _ (λ stands. h .3) (λ counts. h .3), h .4, h .5, h .6, h .7, h .8)
 
   transmit-groups : (counted : Bool) → leb (countedTransmitError (d .counters) (d .acting) counted .groups) 128 ≡ true
   unfolding countedTransmitError transmitError

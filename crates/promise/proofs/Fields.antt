@@ -15,14 +15,14 @@ use Rattle.fifo.specs.Queue.{absent}
 use Rattle.frame.specs.declared.Header.{Header}
 use Rattle.frame.specs.Length.{possible, dataFits}
 use Rattle.frame.specs.Tables.{idFrom, idAsRead}
-use Rattle.frame.specs.Received.{received, idIn, headerIn, dataIn}
+use Rattle.frame.specs.Received.{received, idIn, headerIn}
 use Rattle.frame.proofs.ReadBack.{header-back, data-back, time-back, filter-back}
 use Rattle.filter.specs.Lowest.{filhit}
 use Rattle.sent.specs.declared.ToSend.{ToSend}
 use Rattle.sent.specs.Sent.{messageOf, stored}
 use Rattle.chip.specs.declared.Device.{Device}
 use Rattle.chip.specs.State.{fresh, loopback, resetBit}
-use Rattle.receive.specs.Receive.{hit, message}
+use Rattle.receive.specs.Receive.{hit, message, ownHeader, ownData}
 use Rattle.events.specs.declared.Event.{Event}
 use Rattle.events.specs.declared.Event.the-variants.{GoodFrame, ReceiveError, DominantBit, TransmitError, Begun, Completed, ArbitrationLost, ElevenRecessive}
 use Rattle.events.specs.declared.Event.the-variants.{BusQuiet, BusActivity, Ticks, TxenPin, MrPin, Unknown}
@@ -32,13 +32,14 @@ use Rattle.commands.specs.declared.Found.the-variants.{At, Nothing}
 use Rattle.commands.specs.Table.{rows, lookup}
 use Rattle.commands.specs.Verbs.{abortTransmission, clearTransmit, writeMessage}
 use Rattle.refused.specs.Refused.{lengthFits}
-use Rattle.promise.specs.Sequence.{Input, spi, wire, Step, shipped as step, run}
+use Rattle.done.specs.Done.{brought}
+use Rattle.promise.specs.Sequence.{Input, spi, wire, Step, shipped as step, done, run}
 use Rattle.promise.specs.Meaning.{clearing, other, meanings, commandMeans, means}
 use Rattle.promise.specs.Ledger.{Shows, Truly, hidden}
-use Rattle.promise.specs.Outbox.{Running, none, first, alone, Outbox, emptied, halted, aloneAfter, brought, remaining, commanded, happened, outboxAfter, outbox}
+use Rattle.promise.specs.Outbox.{Running, none, first, alone, Outbox, emptied, halted, aloneAfter, remaining, commanded, happened, outboxAfter, outbox}
 use Rattle.promise.specs.Outbox.{Runs}
 use Rattle.promise.specs.Promises.{FieldsStandAsTheyArrived}
-use Rattle.promise.specs.Sums.{done, asks, resetAsked, resetMet}
+use Rattle.promise.specs.Sums.{asks, resetAsked, resetMet}
 use Rattle.promise.proofs.Each.{Each, each-more}
 use Rattle.promise.proofs.Among.{_and_, among-keeps}
 use Rattle.promise.proofs.Choices.{pick-keeps, pick-under}
@@ -185,7 +186,7 @@ event-truly d own (GoodFrame h acknowledged n) payload =
     (λ so. shows-fields d h payload (and-left (possible h) _ (not-false (possible h && dataFits h n) so)))
 event-truly d own Completed payload =
     pick-under (Truly d) (runs d && eqb (d .acting) loopback) _ _
-    (λ comes. shows-fields d (headerIn (d .buffer .bytes)) (dataIn (d .buffer .bytes)) (own (and-left (runs d) _ comes)))
+    (λ comes. shows-fields d (ownHeader d) (ownData d) (own (and-left (runs d) _ comes)))
     (λ none. tt)
 event-truly d own (ReceiveError kind) payload = tt
 event-truly d own DominantBit payload = tt

@@ -10,15 +10,15 @@ use Rattle.base.specs.Pick.{pick}
 use Rattle.counters.specs.declared.Counters.{Counters}
 use Rattle.fifo.specs.declared.Fifo.{Fifo}
 use Rattle.fifo.specs.declared.Message.{Message}
-use Rattle.fifo.specs.Queue.{put}
+use Rattle.fifo.specs.Queue.{full, put}
 use Rattle.filter.specs.declared.Hit.{Hit}
 use Rattle.filter.specs.declared.Hit.the-variants.{Filter, Nothing}
 use Rattle.filter.specs.Lowest.{filhit}
+use Rattle.chip.specs.Proper.{filhitFits, sendingFits, actingFits}
 use Rattle.chip.specs.State.{modeOf, sleep, monitor, initialization, idle, alone}
 use Rattle.events.specs.declared.ErrorKind.{ErrorKind}
 use Rattle.events.specs.declared.ErrorKind.the-variants.{Stuff, Ack, Crc, Form, Bit}
 use Rattle.changed.specs.Changed.{errBit}
-use Rattle.promise.proofs.Ranges.{filhitFits, sendingFits, actingFits}
 
 abbrev pub Grouped : Counters → Type 0
 Grouped c = leb (c .groups) 128 ≡ true
@@ -28,7 +28,7 @@ pub grows : (t : Bool) (n m : ℕ) (s : Bool) → n ≤ m → pick t (leb 1 n) s
 grows true n m s more e = le-leb 1 m (omega (arith, leb-true 1 n e))
 grows false n m s more e = e
 
-pub put-grows : (t : Bool) (q : Fifo) (m : Message) → ltb (q .count) 8 ≡ t → q .count ≤ put q m .count
+pub put-grows : (t : Bool) (q : Fifo) (m : Message) → full q ≡ t → q .count ≤ put q m .count
 unfolding put
 put-grows true q m e = rw e (omega arith)
 put-grows false q m e = rw e (omega arith)

@@ -1,5 +1,5 @@
 -- What an event does to INTF. Assumes nothing.
-use mathlib.Core.Path.{_≡_, refl, sym, _∙_}
+use mathlib.Core.Path.{_≡_, refl, sym}
 use mathlib.Core.Bool.{Bool, true, false, not, _&&_}
 use mathlib.Core.List.{List, [], _∷_, _++_}
 use Prim.Native.Nat.{ℕ}
@@ -9,15 +9,14 @@ use lib.Dec.{eqb}
 use Rattle.base.specs.Pick.{pick}
 use Rattle.base.proofs.Booleans.{and-left, and-right}
 use Rattle.frame.specs.declared.Header.{Header}
-use Rattle.frame.specs.Received.{headerIn, dataIn}
 use Rattle.chip.specs.declared.Device.{Device}
-use Rattle.chip.specs.State.{fresh, modeOf, sleep, monitor, loopback, wakeup}
-use Rattle.flags.specs.Flags.{raised, busError, rxtmp, rxfifo, buserr, txcplt}
+use Rattle.chip.specs.State.{fresh, modeOf, sleep, loopback, wakeup}
+use Rattle.flags.specs.Flags.{raised, busError, rxtmp, buserr, txcplt}
 use Rattle.flags.specs.Reset.{reset}
 use Rattle.transmit.specs.Transmit.{stopped, begun, sent}
 use Rattle.modes.specs.Modes.{changed, canSleep, busQuiet, busActivity}
 use Rattle.receive.specs.declared.Arrival.{Arrival}
-use Rattle.receive.specs.Receive.{arrived, hit, isQueued}
+use Rattle.receive.specs.Receive.{arrived, hit, isQueued, queuedFlag, filterFlag}
 use Rattle.events.specs.declared.Event.{Event}
 use Rattle.events.specs.declared.Event.the-variants.{GoodFrame, ReceiveError, DominantBit, TransmitError, Begun, Completed, ArbitrationLost, ElevenRecessive}
 use Rattle.events.specs.declared.Event.the-variants.{BusQuiet, BusActivity, Ticks, TxenPin, MrPin, Unknown}
@@ -25,12 +24,12 @@ use Rattle.judged.specs.declared.Answer.the-variants.{Done, Arrived}
 use Rattle.judged.specs.Judged.{impossible, runs}
 use Rattle.changed.specs.Changed.{after, reachesTemporary, frameAfter, heard, echoed, receiveErrorMet, dominantMet, transmitErrorMet, recessiveMet, ticked, pinSet}
 use Rattle.promise.specs.Meaning.{means}
-use Rattle.promise.specs.Sequence.{wire, Given, answered, shipped as step}
-use Rattle.promise.specs.Sums.{done, resetMet}
-use Rattle.promise.specs.Interrupts.{filterFlags, frameHit, givenFlags, ownFlags, modeFlags, wakeFlags, together}
-use Rattle.promise.proofs.Choices.{pick-keeps, pick-under}
+use Rattle.promise.specs.Sequence.{wire, Given, answered, shipped as step, done}
+use Rattle.promise.specs.Sums.{resetMet}
+use Rattle.promise.specs.Interrupts.{frameHit, givenFlags, ownFlags, modeFlags, wakeFlags, together}
+use Rattle.promise.proofs.Choices.{pick-under}
 use Rattle.promise.proofs.EventKinds.{by-happening}
-use Rattle.promise.proofs.Rising.{both-stay, sleeps, wakes, frame-rises}
+use Rattle.promise.proofs.Rising.{both-stay, sleeps, wakes}
 
 module _ (d : Device) where
   -- these flags rise, and then those of the mode
@@ -74,7 +73,7 @@ module _ (d : Device) where
     unfolding after receiveErrorMet busError raised dominantMet transmitErrorMet stopped begun sent recessiveMet ticked pinSet reset fresh
     after-rises (GoodFrame h acknowledged n) = stays (d .regs .intf)
     after-rises (ReceiveError kind) = stays (bitOr (d .regs .intf) buserr)
-    after-rises DominantBit = pick-keeps (Rises []) (eqb (d .acting) monitor) d _ (stays (d .regs .intf)) (stays (d .regs .intf))
+    after-rises DominantBit = stays (d .regs .intf)
     after-rises (TransmitError kind counts) = stays (bitOr (d .regs .intf) buserr)
     after-rises Begun = stays (d .regs .intf)
     after-rises Completed = stays (bitOr (d .regs .intf) txcplt)
@@ -89,10 +88,10 @@ module _ (d : Device) where
 
     -- a frame that reaches the buffer, or activity on the bus
     frame-cases : (h : Header) (what : Arrival) (taken : Bool)
-        → Rises (pick taken (rxtmp ∷ (pick (isQueued what) (rxfifo ∷ []) [] ++ filterFlags (hit d h payload))) [])
+        → Rises (pick taken (rxtmp ∷ queuedFlag (isQueued what) ∷ filterFlag (hit d h payload) ∷ []) [])
         (pick taken (heard d h payload what) (busActivity d))
     unfolding heard arrived raised
-    frame-cases h what true = stays _ ∙ sym (frame-rises (d .regs .intf) (isQueued what) (hit d h payload) _)
+    frame-cases h what true = stays _
     frame-cases h what false = activity-rises
 
     framed-rises : (h : Header) (acknowledged : Bool) (n : ℕ) (what : Arrival) → impossible d (GoodFrame h acknowledged n) ≡ false
@@ -103,9 +102,7 @@ module _ (d : Device) where
     echo-rises : (what : Arrival) → impossible d Completed ≡ false → eqb (d .acting) loopback ≡ true → reachesTemporary what ≡ true
         → Wired Completed true (answered (Arrived what)) (echoed d what)
     unfolding echoed sent arrived raised impossible
-    echo-rises what possible back taken =
-        rw (not-false (runs d) possible, back, taken)
-        (stays _ ∙ sym (frame-rises (d .regs .intf) (isQueued what) (hit d (headerIn (d .buffer .bytes)) (dataIn (d .buffer .bytes))) _))
+    echo-rises what possible back taken = rw (not-false (runs d) possible, back, taken) (stays _)
 
     pub event-rises : (e : Event) → Wired e (done (step d (wire e payload) .given)) (step d (wire e payload) .given) (step d (wire e payload) .device)
     event-rises e = by-happening Wired d payload (λ e n. refl) framed-rises echo-rises (λ e possible. after-rises e) e

@@ -4,21 +4,20 @@ use mathlib.Core.Bool.{Bool, true, false, _&&_, false≢true}
 use mathlib.Core.List.{List, []}
 use Prim.Native.Nat.{ℕ, _<_}
 use borrow.Author.Tests.{leb-false, not-true, not-false}
-use lib.Dec.{eqb, leb}
+use lib.Dec.{eqb}
 use Rattle.base.specs.Pick.{pick}
+use Rattle.fifo.specs.Queue.{eightWait, full}
 use Rattle.frame.specs.declared.Header.{Header}
-use Rattle.frame.specs.Received.{headerIn, dataIn}
 use Rattle.filter.specs.declared.Hit.{Hit}
 use Rattle.filter.specs.declared.Hit.the-variants.{Filter, Nothing}
 use Rattle.chip.specs.declared.Device.{Device}
-use Rattle.chip.specs.State.{fresh, filton, loopback, monitor, sleep, wakeup}
+use Rattle.chip.specs.State.{fresh, filton, loopback}
 use Rattle.flags.specs.Flags.{raised, busError}
 use Rattle.flags.specs.Reset.{reset}
 use Rattle.transmit.specs.Transmit.{begun, stopped, sent}
-use Rattle.modes.specs.Modes.{changed, canSleep, busQuiet, busActivity}
 use Rattle.receive.specs.declared.Arrival.{Arrival}
 use Rattle.receive.specs.declared.Arrival.the-variants.{Queued, A1, A2, A3, A4, A5}
-use Rattle.receive.specs.Receive.{hit, room, passed, answered as judgedBy, filtersAndRoom, message, isQueued, queueAfter, arrived}
+use Rattle.receive.specs.Receive.{hit, room, passed, answered as judgedBy, filtersAndRoom, message, isQueued, queueAfter, arrived, ownHeader, ownData}
 use Rattle.events.specs.declared.Event.{Event}
 use Rattle.events.specs.declared.Event.the-variants.{GoodFrame, ReceiveError, DominantBit, TransmitError, Begun, Completed, ArbitrationLost, ElevenRecessive}
 use Rattle.events.specs.declared.Event.the-variants.{BusQuiet, BusActivity, Ticks, TxenPin, MrPin, Unknown}
@@ -31,6 +30,7 @@ use Rattle.promise.specs.Meaning.{frame, other, fromTheBus, means}
 use Rattle.promise.specs.Ledger.{Ledger, missed, due, hidden}
 use Rattle.promise.proofs.Choices.{pick-under}
 use Rattle.promise.proofs.Kept.{Kept, Agrees, left-waits, other-agrees, clear-agrees, frame-agrees}
+use Rattle.promise.proofs.EventKinds.{quiet-unmoved, activity-unmoved}
 use Rattle.promise.proofs.EventsFit.{event-in}
 use Rattle.promise.proofs.Ranges.{InRange, ranges-proper}
 use Rattle.promise.proofs.Steps.{refusedEvent, doneEvent}
@@ -48,7 +48,7 @@ filters-room : (d : Device) (h : Header) (payload : List ℕ) → filtersAndRoom
 unfolding filtersAndRoom judgedBy
 filters-room d h payload = by-match d (filton d) (hit d h payload)
 
-room-queued : (t : Bool) (count : ℕ) → leb 8 count ≡ t → isQueued (pick t A5 Queued) ≡ true → count < 8
+room-queued : (t : Bool) (count : ℕ) → eightWait count ≡ t → isQueued (pick t A5 Queued) ≡ true → count < 8
 unfolding isQueued
 room-queued true count e queued = absurd (false≢true queued)
 room-queued false count e queued = leb-false 8 count e
@@ -57,7 +57,7 @@ room-queued false count e queued = leb-false 8 count e
 found-room : (d : Device) (t : Bool) → isQueued (pick t A4 (room d)) ≡ true → d .rx .count < 8
 unfolding isQueued room
 found-room d true queued = absurd (false≢true queued)
-found-room d false queued = room-queued (leb 8 (d .rx .count)) (d .rx .count) refl queued
+found-room d false queued = room-queued (full (d .rx)) (d .rx .count) refl queued
 
 reason-room : (a b c : Bool) (what : Arrival) → isQueued (pick a A1 (pick b A2 (pick c A3 what))) ≡ true → isQueued what ≡ true
 unfolding isQueued
@@ -99,21 +99,13 @@ module _ (d : Device) (l : Ledger) (h : Kept d l) where
 
   -- ---- the queue after it
 
-  activity-queue : busActivity d .rx ≡ d .rx
-  unfolding busActivity changed raised
-  activity-queue = pick-under (λ (e : Device). e .rx ≡ d .rx) (eqb (d .acting) sleep && wakeup d) _ _ (λ wakes. refl) (λ stays. refl)
-
-  quiet-queue : busQuiet d .rx ≡ d .rx
-  unfolding busQuiet changed raised
-  quiet-queue = pick-under (λ (e : Device). e .rx ≡ d .rx) (canSleep d) _ _ (λ sleeps. refl) (λ stays. refl)
-
   frame-queue : (header : Header) (payload : List ℕ) (what : Arrival)
       → frameAfter d header payload what .rx ≡ queueAfter (d .rx) (message d header payload) (isQueued what)
   unfolding frameAfter heard arrived raised queueAfter
   frame-queue header payload what =
       pick-under (λ (e : Device). e .rx ≡ queueAfter (d .rx) (message d header payload) (isQueued what)) (reachesTemporary what) _ _
       (λ reaches. refl)
-      (λ stays. rw (unreached what stays) activity-queue)
+      (λ stays. rw (unreached what stays) (ap (λ x. x .4) (activity-unmoved d)))
 
   -- ---- each event
 
@@ -126,20 +118,20 @@ module _ (d : Device) (l : Ledger) (h : Kept d l) where
   unfolding sent raised
   sent-queue e = refl
 
-  echoed-queue : (what : Arrival) → echoed d what .rx ≡ queueAfter (d .rx) (message d (headerIn (d .buffer .bytes)) (dataIn (d .buffer .bytes))) (isQueued what)
+  echoed-queue : (what : Arrival) → echoed d what .rx ≡ queueAfter (d .rx) (message d (ownHeader d) (ownData d)) (isQueued what)
   unfolding echoed sent arrived raised
   echoed-queue what = refl
 
   -- in loopback the own message arrives; elsewhere a completion brings no frame
   own : Arrival
-  own = filtersAndRoom d (headerIn (d .buffer .bytes)) (dataIn (d .buffer .bytes))
+  own = filtersAndRoom d (ownHeader d) (ownData d)
 
   by-mode : (t : Bool) (payload : List ℕ) → InRange (outcome d Completed payload (pick t (Arrived own) Done) .device)
-      → Agrees d l [] (pick t (frame (headerIn (d .buffer .bytes)) (dataIn (d .buffer .bytes)) []) other) (doneEvent d Completed payload (pick t (Arrived own) Done))
+      → Agrees d l [] (pick t (frame (ownHeader d) (ownData d) []) other) (doneEvent d Completed payload (pick t (Arrived own) Done))
   unfolding own arrival after
   by-mode true payload range =
-      frame-agrees d l h [] (headerIn (d .buffer .bytes)) (dataIn (d .buffer .bytes)) [] own (echoed d own)
-      (own-due (headerIn (d .buffer .bytes)) (dataIn (d .buffer .bytes))) (own-room (headerIn (d .buffer .bytes)) (dataIn (d .buffer .bytes))) range
+      frame-agrees d l h [] (ownHeader d) (ownData d) [] own (echoed d own)
+      (own-due (ownHeader d) (ownData d)) (own-room (ownHeader d) (ownData d)) range
       (echoed-queue own)
   by-mode false payload range = leaves Completed payload range (sent-queue d)
 
@@ -158,14 +150,13 @@ module _ (d : Device) (l : Ledger) (h : Kept d l) where
       (frame-queue header payload (reason d header acknowledged payload)))
   done-agrees Completed payload possible range = completed-agrees payload (not-false (runs d) possible) range
   done-agrees (ReceiveError kind) payload possible range = leaves (ReceiveError kind) payload range refl
-  done-agrees DominantBit payload possible range =
-      leaves DominantBit payload range (pick-under (λ (e : Device). e .rx ≡ d .rx) (eqb (d .acting) monitor) _ _ (λ stands. refl) (λ counts. refl))
+  done-agrees DominantBit payload possible range = leaves DominantBit payload range refl
   done-agrees (TransmitError kind counted) payload possible range = leaves (TransmitError kind counted) payload range refl
   done-agrees Begun payload possible range = leaves Begun payload range refl
   done-agrees ArbitrationLost payload possible range = leaves ArbitrationLost payload range refl
   done-agrees ElevenRecessive payload possible range = leaves ElevenRecessive payload range refl
-  done-agrees BusQuiet payload possible range = leaves BusQuiet payload range quiet-queue
-  done-agrees BusActivity payload possible range = leaves BusActivity payload range activity-queue
+  done-agrees BusQuiet payload possible range = leaves BusQuiet payload range (ap (λ x. x .4) (quiet-unmoved d))
+  done-agrees BusActivity payload possible range = leaves BusActivity payload range (ap (λ x. x .4) (activity-unmoved d))
   done-agrees (Ticks count) payload possible range = leaves (Ticks count) payload range refl
   done-agrees (TxenPin level) payload possible range = leaves (TxenPin level) payload range refl
   done-agrees MrPin payload possible range = clear-agrees d l h [] (reset d) (answered Done) range refl refl refl

@@ -6,7 +6,6 @@ use Prim.Native.Nat.{ℕ, zero, suc, _<_, _≤_, _+_, _-_}
 use native.Mathlib.Omega.{arith}
 use native.Mathlib.Nat.{le-of-suc-le-suc, not-suc-le-zero}
 use borrow.Author.Tests.{eq-eqb, ne-eqb}
-use lib.Dec.{eqb, ltb}
 use lib.ListN.{length, getD, take, replicate, length-append, length-take, length-replicate, length-set}
 use lib.Seq.{getD-append-seam}
 use Rattle.base.specs.Pick.{pick}
@@ -14,7 +13,7 @@ use Rattle.base.specs.Put.{putOf}
 use Rattle.base.specs.Tabulate.{tabulate}
 use Rattle.fifo.specs.declared.Fifo.{Fifo}
 use Rattle.fifo.specs.declared.Message.{Message}
-use Rattle.fifo.specs.Queue.{empty, absent, waiting, put, next, take as takeOff}
+use Rattle.fifo.specs.Queue.{empty, absent, noneWaits, full, isEmpty, waiting, put, next, take as takeOff}
 use Rattle.fifo.proofs.Waiting.{put-waits, take-waits}
 use Rattle.frame.specs.declared.Header.{Header}
 use Rattle.frame.specs.Length.{dataBytes, dataOf}
@@ -64,11 +63,11 @@ length-tabulate f i (suc n) = ap suc (length-tabulate f (suc i) n)
 
 pub taken-items : (q : Fifo) → takeOff q .items ≡ q .items
 unfolding takeOff
-taken-items q = pick-under (λ (r : Fifo). r .items ≡ q .items) (eqb (q .count) 0) _ _ (λ none. refl) (λ some. refl)
+taken-items q = pick-under (λ (r : Fifo). r .items ≡ q .items) (isEmpty q) _ _ (λ none. refl) (λ some. refl)
 
 pub put-items : (q : Fifo) (m : Message) → length (put q m .items) ≡ length (q .items)
 unfolding put
-put-items q m = pick-under (λ (r : Fifo). length (r .items) ≡ length (q .items)) (ltb (q .count) 8) _ _ (λ room. length-set (q .items) _ m) (λ full. refl)
+put-items q m = pick-under (λ (r : Fifo). length (r .items) ≡ length (q .items)) (full q) _ _ (λ none. refl) (λ room. length-set (q .items) _ m)
 
 pub record Kept (d : Device) (l : Ledger) : Type 0 where
   pub range : InRange d
@@ -123,7 +122,7 @@ module _ (d : Device) (l : Ledger) (h : Kept d l) where
   -- a read that finds none
   pub none-agrees : (buffer : List ℕ) (verb : ℕ) → d .rx .count ≡ 0 → Agrees d l buffer (reading verb) (record { device = d; given = replied 7 buffer })
   none-agrees buffer verb none =
-      let empty : eqb (left l) 0 ≡ true = eq-eqb (left l) 0 (left-waits ∙ none) in
+      let empty : noneWaits (left l) ≡ true = eq-eqb (left l) 0 (left-waits ∙ none) in
       record {
         answers = rw empty;
         kept = rw empty h;
@@ -134,7 +133,7 @@ module _ (d : Device) (l : Ledger) (h : Kept d l) where
   pub read-agrees : (buffer : List ℕ) (verb n : ℕ) (e : Device) (reply : List ℕ) → d .rx .count ≡ suc n → InRange e → e .rx ≡ takeOff (d .rx)
       → reply ≡ fields verb (next (d .rx)) → Agrees d l buffer (reading verb) (record { device = e; given = replied 0 (putOf reply buffer) })
   read-agrees buffer verb n e reply some range rx shows =
-      let waits : eqb (left l) 0 ≡ false = ne-eqb (left l) 0 (λ none. omega (arith, left-waits)) in
+      let waits : noneWaits (left l) ≡ false = ne-eqb (left l) 0 (λ none. omega (arith, left-waits)) in
       record {
         answers = rw (waits, oldest-next n some, shows);
         kept = rw waits (record {

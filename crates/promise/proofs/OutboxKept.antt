@@ -5,13 +5,13 @@ use mathlib.Core.List.{List, [], _∷_, _++_}
 use Prim.Native.Nat.{ℕ, zero, suc, _-_}
 use native.Mathlib.Omega.{arith}
 use borrow.Author.Tests.{leb-true, leb-false, eqb-false, eq-eqb, ne-eqb}
-use lib.Dec.{eqb, leb}
+use lib.Dec.{eqb}
 use lib.ListN.{length, getD, drop}
 use Rattle.base.specs.Pick.{pick}
 use Rattle.base.proofs.Booleans.{and-left, and-right}
 use Rattle.fifo.specs.declared.Fifo.{Fifo}
 use Rattle.fifo.specs.declared.Message.{Message}
-use Rattle.fifo.specs.Queue.{empty, absent, isEmpty, waiting, take, next}
+use Rattle.fifo.specs.Queue.{empty, absent, full, isEmpty, waiting, take, next}
 use Rattle.fifo.proofs.Waiting.{put-waits, take-waits}
 use Rattle.chip.specs.declared.Device.{Device}
 use Rattle.chip.specs.State.{fresh, modeOf, sleep, idle, firstInFifo, resetBit}
@@ -19,8 +19,8 @@ use Rattle.flags.specs.Flags.{raised}
 use Rattle.flags.specs.Reset.{reset}
 use Rattle.transmit.specs.Transmit.{canBegin, begun, stopped, cleared, leftAlone, fifoAfter, sent}
 use Rattle.modes.specs.Modes.{changed, writeCtrl0}
-use Rattle.done.specs.Done.{messageWritten}
-use Rattle.promise.specs.Outbox.{Running, none, first, alone, Outbox, emptied, halted, aloneAfter, brought, remaining, Runs}
+use Rattle.done.specs.Done.{brought, messageWritten}
+use Rattle.promise.specs.Outbox.{Running, none, first, alone, Outbox, emptied, halted, aloneAfter, remaining, Runs}
 use Rattle.promise.proofs.Choices.{pick-keeps, pick-under}
 use Rattle.promise.proofs.Fits.{some-wait}
 use Rattle.promise.proofs.Kept.{taken-items, put-items}
@@ -102,7 +102,7 @@ module _ (d : Device) (o : Outbox) (h : Held d o) where
   cleared-held = record { places = refl; queued = refl; runs = cleared-runs d (o .running) (h .runs) }
 
   -- 0x12 that finds room
-  pub written-held : (bytes : List ℕ) → eqb (length bytes) 0 ≡ false → leb 8 (d .tx .count) ≡ false
+  pub written-held : (bytes : List ℕ) → eqb (length bytes) 0 ≡ false → full (d .tx) ≡ false
       → Held (messageWritten d bytes) (record { queue = o .queue ++ (brought bytes ∷ []); running = o .running })
   unfolding messageWritten
   written-held bytes some room = rw some (record {

@@ -11,11 +11,10 @@ use Rattle.base.specs.Bit.{byte}
 use Rattle.base.specs.Pick.{pick}
 use Rattle.frame.specs.declared.Header.{Header}
 use Rattle.chip.specs.declared.Device.{Device}
-use Rattle.chip.specs.State.{fresh, sleep, monitor, resetBit, wakeup}
+use Rattle.chip.specs.State.{fresh, resetBit}
 use Rattle.flags.specs.Flags.{raised, busError}
 use Rattle.flags.specs.Reset.{reset}
 use Rattle.transmit.specs.Transmit.{canBegin, aborted, stopped}
-use Rattle.modes.specs.Modes.{changed, canSleep, busQuiet, busActivity}
 use Rattle.receive.specs.declared.Arrival.{Arrival}
 use Rattle.receive.specs.Receive.{arrived}
 use Rattle.events.specs.declared.Event.{Event}
@@ -28,39 +27,26 @@ use Rattle.commands.specs.declared.Row.{Row}
 use Rattle.commands.specs.Table.{rows, lookup}
 use Rattle.commands.specs.Verbs.{abortTransmission, clearTransmit, masterReset, writeMessage, writeCtrl0 as writesCtrl0}
 use Rattle.refused.specs.Refused.{findsFull}
-use Rattle.done.specs.Done.{registerChanged, messageTaken, entryTaken, receiveCleared, timeReset, filterWritten, maskWritten, recWritten, tecWritten, deeds, does}
+use Rattle.done.specs.Done.{registerChanged, messageTaken, entryTaken, receiveCleared, timeReset, brought, filterWritten, maskWritten, recWritten, tecWritten, deeds, does}
 use Rattle.promise.specs.Promises.{OwnMessagesAreThoseWritten}
 use Rattle.promise.specs.Sequence.{Input, spi, wire, Step, shipped as step, number, run}
 use Rattle.promise.specs.Numbers.{row, firstSaying}
 use Rattle.promise.specs.Sums.{resetMet}
-use Rattle.promise.specs.Outbox.{Outbox, emptied, halted, aloneAfter, brought, commanded, happened, outboxAfter, outbox}
+use Rattle.promise.specs.Outbox.{Outbox, emptied, halted, aloneAfter, commanded, happened, outboxAfter, outbox}
 use Rattle.promise.proofs.Among.{_and_, among-keeps, none-of}
 use Rattle.promise.proofs.Choices.{pick-keeps, or-left}
 use Rattle.promise.proofs.Steps.{keeps, by-transfer}
-use Rattle.promise.proofs.EventKinds.{by-happening}
+use Rattle.promise.proofs.EventKinds.{quiet-unmoved, activity-unmoved, by-happening}
 use Rattle.promise.proofs.Lowest.{lowest-none}
 use Rattle.promise.proofs.Answered.{first}
 use Rattle.promise.proofs.OutboxKept.{outgoing, Held, onward, empty-held, same-held, stopped-held, onward-held, ctrl0-held, cleared-held, written-held}
 use Rattle.promise.proofs.OutboxKept.{begun-held, sent-held}
 
--- ---- events that leave what the outbox speaks of
+-- a frame leaves what the outbox speaks of
 
-module _ (d : Device) where
-  activity-same : outgoing (busActivity d) ≡ outgoing d
-  unfolding busActivity changed raised
-  activity-same = pick-keeps (λ e. outgoing e ≡ outgoing d) (eqb (d .acting) sleep && wakeup d) _ d refl refl
-
-  quiet-same : outgoing (busQuiet d) ≡ outgoing d
-  unfolding busQuiet changed raised
-  quiet-same = pick-keeps (λ e. outgoing e ≡ outgoing d) (canSleep d) _ d refl refl
-
-  dominant-same : outgoing (dominantMet d) ≡ outgoing d
-  unfolding dominantMet
-  dominant-same = pick-keeps (λ e. outgoing e ≡ outgoing d) (eqb (d .acting) monitor) d _ refl refl
-
-  frame-same : (header : Header) (payload : List ℕ) (what : Arrival) → outgoing (frameAfter d header payload what) ≡ outgoing d
-  unfolding frameAfter heard arrived raised
-  frame-same header payload what = pick-keeps (λ e. outgoing e ≡ outgoing d) (reachesTemporary what) _ _ refl activity-same
+frame-same : (d : Device) (header : Header) (payload : List ℕ) (what : Arrival) → outgoing (frameAfter d header payload what) ≡ outgoing d
+unfolding frameAfter heard arrived raised
+frame-same d header payload what = pick-keeps (λ e. outgoing e ≡ outgoing d) (reachesTemporary what) _ _ refl (ap (λ x. x .3) (activity-unmoved d))
 
 module _ (d : Device) (o : Outbox) (h : Held d o) where
   -- ---- a transfer that is done
@@ -131,17 +117,17 @@ module _ (d : Device) (o : Outbox) (h : Held d o) where
   echoed-held what = sent-held _ o (arrived-held _ _ what)
 
   after-held : (e : Event) → impossible d e ≡ false → Held (after d e) (pick (resetMet e) emptied (happened o e))
-  unfolding after impossible receiveErrorMet transmitErrorMet stopped busError raised recessiveMet ticked pinSet reset fresh
+  unfolding after impossible receiveErrorMet dominantMet transmitErrorMet stopped busError raised recessiveMet ticked pinSet reset fresh
   after-held (GoodFrame header acknowledged n) possible = h
   after-held (ReceiveError kind) possible = same-held d o h _ refl
-  after-held DominantBit possible = same-held d o h _ (dominant-same d)
+  after-held DominantBit possible = same-held d o h _ refl
   after-held (TransmitError kind counted) possible = stopped-held d o h _ refl refl
   after-held Begun possible = begun-held d o h (not-false (canBegin d) possible)
   after-held Completed possible = sent-held d o h
   after-held ArbitrationLost possible = stopped-held d o h _ refl refl
   after-held ElevenRecessive possible = same-held d o h _ refl
-  after-held BusQuiet possible = same-held d o h _ (quiet-same d)
-  after-held BusActivity possible = same-held d o h _ (activity-same d)
+  after-held BusQuiet possible = same-held d o h _ (ap (λ x. x .3) (quiet-unmoved d))
+  after-held BusActivity possible = same-held d o h _ (ap (λ x. x .3) (activity-unmoved d))
   after-held (Ticks count) possible = same-held d o h _ refl
   after-held (TxenPin level) possible = same-held d o h _ refl
   after-held MrPin possible = empty-held _ refl refl

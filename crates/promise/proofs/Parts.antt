@@ -20,8 +20,8 @@ use Rattle.modes.specs.Modes.{put-ctrl0, changed, writeCtrl0}
 use Rattle.commands.specs.Verbs.{readErr, readIntf, masterReset, resetTime, writeCtrl0 as writesCtrl0, writeRec, writeTec}
 use Rattle.done.specs.Done.{settings, registersAfter, registerChanged, messageTaken, entryTaken, receiveCleared, timeReset, messageWritten, filterWritten}
 use Rattle.done.specs.Done.{maskWritten, recWritten, tecWritten, deeds, does}
-use Rattle.promise.specs.Sequence.{spi, shipped as step}
-use Rattle.promise.specs.Sums.{done, asks}
+use Rattle.promise.specs.Sequence.{spi, shipped as step, done}
+use Rattle.promise.specs.Sums.{asks}
 use Rattle.promise.proofs.Among.{_and_, AtKeys, outside, hasKey, among-keeps, none-of}
 use Rattle.promise.proofs.Choices.{pick-keeps}
 use Rattle.promise.proofs.Steps.{by-transfer}

@@ -12,8 +12,8 @@ use Rattle.chip.specs.State.{fresh, modeOf, sleep, initialization, resetBit}
 use Rattle.flags.specs.Flags.{mchg}
 use Rattle.commands.specs.Verbs.{readIntf, masterReset, writeCtrl0 as writesCtrl0}
 use Rattle.promise.specs.Promises.{IntfIsTheFlagsRaised}
-use Rattle.promise.specs.Sequence.{Input, spi, wire, shipped as step}
-use Rattle.promise.specs.Sums.{done, asks, resetAsked}
+use Rattle.promise.specs.Sequence.{Input, spi, wire, shipped as step, done}
+use Rattle.promise.specs.Sums.{asks, resetAsked}
 use Rattle.promise.specs.Interrupts.{modeFlags, flagsAfter, together}
 use Rattle.promise.proofs.Among.{_and_}
 use Rattle.promise.proofs.Steps.{keeps}

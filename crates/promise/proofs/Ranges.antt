@@ -1,27 +1,16 @@
 -- The ranges that make a device proper, part by part. Assumes nothing.
 use mathlib.Core.Path.{_≡_, refl}
-use mathlib.Core.Bool.{Bool, true, _&&_, _||_}
+use mathlib.Core.Bool.{true}
 use Prim.Native.Nat.{ℕ, _<_, _≤_}
 use native.Mathlib.Omega.{arith}
-use borrow.Author.Tests.{lt-ltb, le-leb, ltb-true, leb-true}
-use lib.Dec.{eqb, leb, ltb}
-use Rattle.base.specs.Pick.{pick}
+use borrow.Author.Tests.{lt-ltb, le-leb, ltb-true, leb-true, leb-false}
+use lib.Dec.{leb, ltb}
 use Rattle.base.proofs.Booleans.{and-left, and-right, pick-under}
 use Rattle.fifo.specs.declared.Fifo.{Fifo}
 use Rattle.fifo.specs.declared.Message.{Message}
-use Rattle.fifo.specs.Queue.{empty, put, take, inRange}
+use Rattle.fifo.specs.Queue.{empty, full, isEmpty, put, take, inRange}
 use Rattle.chip.specs.declared.Device.{Device}
-use Rattle.chip.specs.Proper.{registersInRange, sendingInRange, actingInRange, proper}
-use Rattle.chip.specs.State.{modeOf, sleep, initialization, firstInFifo, alone}
-
-abbrev pub filhitFits : ℕ → Bool
-filhitFits n = eqb n 0 || (leb 8 n && leb n 15)
-
-abbrev pub sendingFits : ℕ → ℕ → Bool
-sendingFits sending waiting = pick (eqb sending firstInFifo) (leb 1 waiting) (leb sending alone)
-
-abbrev pub actingFits : ℕ → ℕ → Bool
-actingFits acting ctrl0 = pick (eqb (modeOf ctrl0) sleep) (leb acting initialization) (eqb acting (modeOf ctrl0))
+use Rattle.chip.specs.Proper.{filhitFits, registersInRange, sendingFits, sendingInRange, actingFits, actingInRange, proper}
 
 -- One range for each part, in this order: a change of other parts leaves it as it is.
 abbrev pub Ranges : Fifo → Fifo → Fifo → ℕ → ℕ → ℕ → ℕ → ℕ → ℕ → ℕ → Type 0
@@ -66,13 +55,13 @@ count-below q e = leb-true (q .count) 8 (and-right (ltb (q .first) 8) (leb (q .c
 pub put-fits : (q : Fifo) (m : Message) → inRange q ≡ true → inRange (put q m) ≡ true
 unfolding put
 put-fits q m h =
-    pick-under (λ (r : Fifo). inRange r ≡ true) (ltb (q .count) 8) _ _
-    (λ room. fits _ (first-below q h) (omega (arith, ltb-true (q .count) 8 room)))
-    (λ full. h)
+    pick-under (λ (r : Fifo). inRange r ≡ true) (full q) _ _
+    (λ none. h)
+    (λ room. fits _ (first-below q h) (omega (arith, leb-false 8 (q .count) room)))
 
 pub take-fits : (q : Fifo) → inRange q ≡ true → inRange (take q) ≡ true
 unfolding take
 take-fits q h =
-    pick-under (λ (r : Fifo). inRange r ≡ true) (eqb (q .count) 0) _ _
+    pick-under (λ (r : Fifo). inRange r ≡ true) (isEmpty q) _ _
     (λ none. h)
     (λ some. fits _ (omega arith) (omega (arith, count-below q h)))

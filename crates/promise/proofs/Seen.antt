@@ -4,11 +4,10 @@ use mathlib.Core.Bool.{_&&_}
 use mathlib.Core.List.{List, [], _++_}
 use Prim.Native.Nat.{ℕ}
 use lib.Bits.{bitOr}
-use lib.Dec.{eqb}
 use Rattle.base.specs.Pick.{pick}
 use Rattle.frame.specs.declared.Header.{Header}
 use Rattle.chip.specs.declared.Device.{Device}
-use Rattle.chip.specs.State.{fresh, monitor}
+use Rattle.chip.specs.State.{fresh}
 use Rattle.flags.specs.Flags.{raised, busError}
 use Rattle.flags.specs.Reset.{reset}
 use Rattle.transmit.specs.Transmit.{stopped, begun, sent}
@@ -47,7 +46,7 @@ module _ (d : Device) (kinds : List ErrorKind) (same : d .regs .errs ≡ kindBit
   unfolding after receiveErrorMet busError raised dominantMet transmitErrorMet stopped begun sent recessiveMet ticked pinSet reset
   after-errs (GoodFrame h acknowledged n) = same
   after-errs (ReceiveError kind) = seen-too kind
-  after-errs DominantBit = pick-keeps (λ (e : Device). e .regs .errs ≡ kindBits kinds) (eqb (d .acting) monitor) d _ same same
+  after-errs DominantBit = same
   after-errs (TransmitError kind counts) = seen-too kind
   after-errs Begun = same
   after-errs Completed = same

@@ -4,12 +4,11 @@ use mathlib.Core.Bool.{Bool, true, false, _&&_, _||_}
 use mathlib.Core.List.{List}
 use Prim.Native.Nat.{ℕ, _%_}
 use native.Mathlib.Omega.{arith}
-use lib.Dec.{eqb}
 use Rattle.base.specs.Bit.{byte}
 use Rattle.base.specs.Pick.{pick}
 use Rattle.frame.specs.declared.Header.{Header}
 use Rattle.chip.specs.declared.Device.{Device}
-use Rattle.chip.specs.State.{fresh, monitor, resetBit}
+use Rattle.chip.specs.State.{fresh, resetBit}
 use Rattle.flags.specs.Flags.{raised, busError}
 use Rattle.flags.specs.Reset.{reset}
 use Rattle.transmit.specs.Transmit.{stopped, begun, sent}
@@ -51,7 +50,7 @@ module _ (d : Device) (t : ℕ) (same : d .time ≡ t % 65536) where
   unfolding after receiveErrorMet busError raised dominantMet transmitErrorMet stopped begun sent recessiveMet tickedOn pinSet reset fresh
   after-time (GoodFrame h acknowledged n) = same
   after-time (ReceiveError kind) = same
-  after-time DominantBit = pick-keeps (λ (e : Device). e .time ≡ t % 65536) (eqb (d .acting) monitor) d _ same same
+  after-time DominantBit = same
   after-time (TransmitError kind counted) = same
   after-time Begun = same
   after-time Completed = same

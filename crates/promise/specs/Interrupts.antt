@@ -7,12 +7,12 @@ use lib.Bits.{bitOr}
 use lib.Dec.{eqb}
 use Rattle.base.specs.Pick.{pick}
 use Rattle.filter.specs.declared.Hit.{Hit}
-use Rattle.filter.specs.declared.Hit.the-variants.{Filter, Nothing}
+use Rattle.filter.specs.declared.Hit.the-variants.{Nothing}
 use Rattle.chip.specs.declared.Device.{Device}
 use Rattle.chip.specs.State.{fresh, monitor, sleep}
-use Rattle.flags.specs.Flags.{rxtmp, rxfifo, txcplt, buserr, mchg, wakeupFlag, f0mess, f1mess}
+use Rattle.flags.specs.Flags.{rxtmp, txcplt, buserr, mchg, wakeupFlag}
 use Rattle.receive.specs.declared.Arrival.{Arrival}
-use Rattle.receive.specs.Receive.{hit, isQueued}
+use Rattle.receive.specs.Receive.{hit, isQueued, queuedFlag, filterFlag}
 use Rattle.events.specs.declared.Event.{Event}
 use Rattle.events.specs.declared.Event.the-variants.{GoodFrame, ReceiveError, DominantBit, TransmitError, Begun, Completed, ArbitrationLost, ElevenRecessive}
 use Rattle.events.specs.declared.Event.the-variants.{BusQuiet, BusActivity, Ticks, TxenPin, MrPin, Unknown}
@@ -20,18 +20,12 @@ use Rattle.judged.specs.declared.Answer.the-variants.{Refused, Done, Arrived}
 use Rattle.changed.specs.Changed.{reachesTemporary}
 use Rattle.commands.specs.Verbs.{readIntf}
 use Rattle.promise.specs.Meaning.{Meaning, frame, reading, clearing, other, means}
-use Rattle.promise.specs.Sequence.{Input, spi, wire, Given, replied, answered, Step, Machine, run, along}
-use Rattle.promise.specs.Sums.{done, asks, resetAsked, resetMet}
+use Rattle.promise.specs.Sequence.{Input, spi, wire, Given, replied, answered, Step, Machine, done, run, along}
+use Rattle.promise.specs.Sums.{asks, resetAsked, resetMet}
 
--- F0MESS, F1MESS: filter 0 or 1 is the lowest match
-abbrev pub filterFlags : Hit → List ℕ
-filterFlags (Filter k) = pick (eqb k 0) (f0mess ∷ []) (pick (eqb k 1) (f1mess ∷ []) [])
-filterFlags Nothing = []
-
--- RXTMP for a frame that reaches the temporary buffer, RXFIFO for one that is queued
+-- RXTMP for a frame that reaches the temporary buffer, RXFIFO for one that is queued, F0MESS or F1MESS for one whose lowest match is filter 0 or 1; 0 raises none
 abbrev pub arrivalFlags : Hit → Arrival → List ℕ
-arrivalFlags found what =
-    pick (reachesTemporary what) (rxtmp ∷ (pick (isQueued what) (rxfifo ∷ []) [] ++ filterFlags found)) []
+arrivalFlags found what = pick (reachesTemporary what) (rxtmp ∷ queuedFlag (isQueued what) ∷ filterFlag found ∷ []) []
 
 abbrev pub frameHit : Device → Meaning → Hit
 frameHit d (frame h payload earlier) = hit d h payload

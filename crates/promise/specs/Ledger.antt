@@ -4,13 +4,12 @@ use mathlib.Core.Path.{_≡_}
 use mathlib.Core.Bool.{Bool, true, false, _&&_}
 use mathlib.Core.List.{List, [], _∷_, _++_, map}
 use Prim.Native.Nat.{ℕ, _-_, _%_}
-use lib.Dec.{eqb, leb}
 use lib.ListN.{length, getD}
 use Rattle.base.specs.Bit.{byte, isSet}
 use Rattle.base.specs.Pick.{pick, among}
 use Rattle.base.specs.Put.{putOf}
 use Rattle.fifo.specs.declared.Message.{Message}
-use Rattle.fifo.specs.Queue.{empty, absent, waiting}
+use Rattle.fifo.specs.Queue.{empty, absent, waiting, eightWait, noneWaits}
 use Rattle.frame.specs.declared.Header.{Header}
 use Rattle.frame.specs.Length.{dataOf}
 use Rattle.frame.specs.Received.{headerIn, dataIn, timeIn, filterIn}
@@ -27,7 +26,7 @@ use Rattle.judged.specs.declared.Answer.the-variants.{Refused, Done, Arrived}
 use Rattle.commands.specs.Verbs.{readMessageWithTime, readMessage, readDataWithTime, readData}
 use Rattle.promise.specs.Numbers.{valuesGiven}
 use Rattle.promise.specs.Meaning.{Reason, Meaning, frame, reading, clearing, other, means}
-use Rattle.promise.specs.Sequence.{Input, spi, wire, Given, replied, answered, Machine, number, run, along}
+use Rattle.promise.specs.Sequence.{Input, spi, wire, Given, replied, answered, Machine, number, done, run, along}
 
 -- ---- the ledger: since the last clearing, the frames that 01 accepts, as they arrived, and the messages that reads took
 
@@ -58,7 +57,7 @@ missed Nothing = true
 -- "A4 filtering is on and no filter matches; A5 eight messages wait": there is room if fewer than eight are left
 abbrev pub reasons : Device → Ledger → Header → List ℕ → List Reason → List Reason
 reasons d l h payload earlier =
-    earlier ++ (filton d && missed (hit d h payload), A4) ∷ (leb 8 (left l), A5) ∷ []
+    earlier ++ (filton d && missed (hit d h payload), A4) ∷ (eightWait (left l), A5) ∷ []
 
 abbrev pub due : Device → Ledger → Header → List ℕ → List Reason → Arrival
 due d l h payload earlier = firstTrue (reasons d l h payload earlier)
@@ -80,7 +79,7 @@ entered l nothing = l
 -- by what the rules say of the input
 abbrev pub owed : Device → Ledger → Meaning → Entry
 owed d l (frame h payload earlier) = pick (isQueued (due d l h payload earlier)) (accepts (message d h payload)) nothing
-owed d l (reading verb) = pick (eqb (left l) 0) nothing takes
+owed d l (reading verb) = pick (noneWaits (left l)) nothing takes
 owed d l clearing = clears
 owed d l other = nothing
 
@@ -97,8 +96,8 @@ saysQueued (answered (Arrived what)) = isQueued what
 
 abbrev pub told : Device → Meaning → Given → Entry
 told d (frame h payload earlier) given = pick (saysQueued given) (accepts (message d h payload)) nothing
-told d (reading verb) given = pick (eqb (number given) 0) takes nothing
-told d clearing given = pick (eqb (number given) 0) clears nothing
+told d (reading verb) given = pick (done given) takes nothing
+told d clearing given = pick (done given) clears nothing
 told d other given = nothing
 
 -- the bytes of a message that a read shows, by Table 5's numbers: 0x46 all, 0x48 "1 and 4 to 16", 0x4A "1 to 3 and 9 to 16", 0x4C "1 and 9 to 16"
@@ -123,7 +122,7 @@ buffered (wire e payload) = []
 abbrev pub Answers : Device → Ledger → List ℕ → Meaning → Given → Type 0
 Answers d l buffer (frame h payload earlier) given = given ≡ answered (Arrived (due d l h payload earlier))
 Answers d l buffer (reading verb) given =
-    given ≡ pick (eqb (left l) 0) (replied 7 buffer) (replied 0 (putOf (fields verb (oldest l)) buffer))
+    given ≡ pick (noneWaits (left l)) (replied 7 buffer) (replied 0 (putOf (fields verb (oldest l)) buffer))
 Answers d l buffer clearing given = (number given ≡ 0) × (valuesGiven given ≡ [])
 Answers d l buffer other given = valuesGiven given ≡ []
 

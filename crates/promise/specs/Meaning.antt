@@ -7,11 +7,11 @@ use lib.ListN.{length}
 use Rattle.base.specs.Bit.{byte}
 use Rattle.base.specs.Pick.{pick, among}
 use Rattle.frame.specs.declared.Header.{Header}
-use Rattle.frame.specs.Received.{headerIn, dataIn}
 use Rattle.chip.specs.declared.Device.{Device}
 use Rattle.chip.specs.State.{loopback, resetBit}
 use Rattle.receive.specs.declared.Arrival.{Arrival}
 use Rattle.receive.specs.declared.Arrival.the-variants.{A1, A2, A3}
+use Rattle.receive.specs.Receive.{ownHeader, ownData}
 use Rattle.events.specs.declared.Event.{Event}
 use Rattle.events.specs.declared.Event.the-variants.{GoodFrame, ReceiveError, DominantBit, TransmitError, Begun, Completed, ArbitrationLost, ElevenRecessive}
 use Rattle.events.specs.declared.Event.the-variants.{BusQuiet, BusActivity, Ticks, TxenPin, MrPin, Unknown}
@@ -62,7 +62,7 @@ abbrev pub eventMeans : Device → Event → List ℕ → Meaning
 eventMeans d (GoodFrame h acknowledged given) payload =
     pick (impossibleFrame h given) other (frame h payload (fromTheBus d acknowledged))
 eventMeans d Completed payload =
-    pick (runs d && eqb (d .acting) loopback) (frame (headerIn (d .buffer .bytes)) (dataIn (d .buffer .bytes)) []) other
+    pick (runs d && eqb (d .acting) loopback) (frame (ownHeader d) (ownData d) []) other
 eventMeans d MrPin payload = clearing
 eventMeans d (ReceiveError kind) payload = other
 eventMeans d DominantBit payload = other

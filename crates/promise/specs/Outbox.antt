@@ -8,7 +8,6 @@ use lib.ListN.{getD, drop}
 use Rattle.base.specs.Pick.{pick}
 use Rattle.fifo.specs.declared.Message.{Message}
 use Rattle.fifo.specs.Queue.{absent, waiting}
-use Rattle.sent.specs.Sent.{messageOf, stored}
 use Rattle.chip.specs.declared.Device.{Device}
 use Rattle.chip.specs.State.{fresh, idle, firstInFifo}
 use Rattle.chip.specs.State as State
@@ -16,8 +15,9 @@ use Rattle.events.specs.declared.Event.{Event}
 use Rattle.events.specs.declared.Event.the-variants.{GoodFrame, ReceiveError, DominantBit, TransmitError, Begun, Completed, ArbitrationLost, ElevenRecessive}
 use Rattle.events.specs.declared.Event.the-variants.{BusQuiet, BusActivity, Ticks, TxenPin, MrPin, Unknown}
 use Rattle.commands.specs.Verbs.{abortTransmission, clearTransmit, writeMessage}
-use Rattle.promise.specs.Sequence.{Input, spi, wire, Step, Machine, run, along}
-use Rattle.promise.specs.Sums.{done, asks, resetAsked, resetMet}
+use Rattle.done.specs.Done.{brought}
+use Rattle.promise.specs.Sequence.{Input, spi, wire, Step, Machine, done, run, along}
+use Rattle.promise.specs.Sums.{asks, resetAsked, resetMet}
 
 pub data Running : Type 0 where
   none : Running
@@ -41,10 +41,6 @@ abbrev pub aloneAfter : Running → Running
 aloneAfter none = none
 aloneAfter (first m) = alone m
 aloneAfter (alone m) = alone m
-
--- the message of 0x12, as it is kept
-abbrev pub brought : List ℕ → Message
-brought bytes = record { bytes = stored (messageOf (drop 1 bytes) .message) }
 
 -- a transfer that was done; "If it names a mode other than the acting one, it acts at once and ends a running transmission"
 abbrev pub commanded : Outbox → List ℕ → ℕ → ℕ → Outbox

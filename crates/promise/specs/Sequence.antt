@@ -1,7 +1,9 @@
 -- What happens to a device: transfers and events, one after the other. The promises are said of any machine that takes
 -- them, and kept by the one that is shipped.
+use mathlib.Core.Bool.{Bool}
 use mathlib.Core.List.{List, [], _∷_}
 use Prim.Native.Nat.{ℕ}
+use lib.Dec.{eqb}
 use lib.ListN.{length}
 use Rattle.chip.specs.declared.Device.{Device}
 use Rattle.events.specs.declared.Event.{Event}
@@ -43,6 +45,10 @@ shipped d (wire e payload) = record {
 abbrev pub number : Given → ℕ
 number (replied n buffer) = n
 number (answered a) = numberOf a
+
+-- an input that was not refused
+abbrev pub done : Given → Bool
+done given = eqb (number given) 0
 
 -- the device after a sequence
 abbrev pub run : Machine → Device → List Input → Device

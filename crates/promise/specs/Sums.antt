@@ -9,23 +9,20 @@ use lib.Dec.{eqb}
 use Rattle.base.specs.Bit.{byte}
 use Rattle.base.specs.Pick.{pick}
 use Rattle.counters.specs.declared.Counters.{Counters}
-use Rattle.counters.specs.Rules.{zeroed, receiveError, dominantBit, goodFrame, transmitError, completed, elevenRecessive, testRec, testTec}
-use Rattle.chip.specs.State.{fresh, normal, unlessMonitor, resetBit, bor}
+use Rattle.counters.specs.Rules.{zeroed, elevenRecessive, testRec, testTec}
+use Rattle.chip.specs.State.{fresh, resetBit, bor}
+use Rattle.transmit.specs.Transmit.{countedCompletion}
 use Rattle.events.specs.declared.ErrorKind.{ErrorKind}
 use Rattle.events.specs.declared.Event.{Event}
 use Rattle.events.specs.declared.Event.the-variants.{GoodFrame, ReceiveError, DominantBit, TransmitError, Begun, Completed, ArbitrationLost, ElevenRecessive}
 use Rattle.events.specs.declared.Event.the-variants.{BusQuiet, BusActivity, Ticks, TxenPin, MrPin, Unknown}
 use Rattle.judged.specs.declared.Answer.the-variants.{Refused, Done, Arrived}
-use Rattle.changed.specs.Changed.{errBit, reachesTemporary}
+use Rattle.changed.specs.Changed.{errBit, countedFrame, reachesTemporary, countedReceiveError, countedDominant, countedTransmitError}
 use Rattle.commands.specs.Verbs.{readErr, masterReset, resetTime, writeCtrl0, writeRec, writeTec}
 use Rattle.promise.specs.Numbers.{command}
-use Rattle.promise.specs.Sequence.{Input, spi, wire, Given, replied, answered, Machine, number, run, along}
+use Rattle.promise.specs.Sequence.{Input, spi, wire, Given, replied, answered, Machine, done, run, along}
 
 -- ---- what happened
-
--- an input that was not refused
-abbrev pub done : Given → Bool
-done given = eqb (number given) 0
 
 -- whether a transfer's command is for that
 abbrev pub asks : ℕ → List ℕ → Bool
@@ -54,20 +51,20 @@ resetMet Unknown = false
 
 -- ---- REC, TEC, bus off and its groups
 
--- "Good frame in normal mode, answered Queued, A4 or A5"
-abbrev pub lowersRec : ℕ → Given → Bool
-lowersRec acting (replied n buffer) = false
-lowersRec acting (answered (Refused n)) = false
-lowersRec acting (answered Done) = false
-lowersRec acting (answered (Arrived what)) = eqb acting normal && reachesTemporary what
+-- "Good frame …, answered Queued, A4 or A5": it reached the temporary buffer
+abbrev pub reached : Given → Bool
+reached (replied n buffer) = false
+reached (answered (Refused n)) = false
+reached (answered Done) = false
+reached (answered (Arrived what)) = reachesTemporary what
 
 -- the rule of an event that was not refused
 abbrev pub countedEvent : ℕ → Bool → Counters → Event → Given → Counters
-countedEvent acting recovers c (GoodFrame h acknowledged n) given = pick (lowersRec acting given) (goodFrame c) c
-countedEvent acting recovers c (ReceiveError kind) given = unlessMonitor acting c (receiveError c)
-countedEvent acting recovers c DominantBit given = unlessMonitor acting c (dominantBit c)
-countedEvent acting recovers c (TransmitError kind counted) given = pick counted (unlessMonitor acting c (transmitError c)) c
-countedEvent acting recovers c Completed given = unlessMonitor acting c (completed c)
+countedEvent acting recovers c (GoodFrame h acknowledged n) given = pick (reached given) (countedFrame c acting) c
+countedEvent acting recovers c (ReceiveError kind) given = countedReceiveError c acting
+countedEvent acting recovers c DominantBit given = countedDominant c acting
+countedEvent acting recovers c (TransmitError kind counted) given = countedTransmitError c acting counted
+countedEvent acting recovers c Completed given = countedCompletion c acting
 countedEvent acting recovers c ElevenRecessive given = elevenRecessive c recovers
 countedEvent acting recovers c Begun given = c
 countedEvent acting recovers c ArbitrationLost given = c

@@ -27,11 +27,11 @@ use Rattle.commands.specs.declared.Found.the-variants.{At, Nothing}
 use Rattle.commands.specs.Table.{rows, lookup}
 use Rattle.refused.specs.Refused.{readsMessage}
 use Rattle.host.specs.Transfer.{replyAfter}
-use Rattle.promise.specs.Sequence.{Input, spi, wire, Given, replied, answered, Step, Machine, shipped, number}
+use Rattle.promise.specs.Sequence.{Input, spi, wire, Given, replied, answered, Step, Machine, shipped, number, done}
 use Rattle.promise.specs.Numbers.{command, valuesGiven}
 use Rattle.promise.specs.Ledger.{saysQueued}
 use Rattle.promise.specs.Interrupts.{ownFlags}
-use Rattle.promise.specs.Sums.{done, resetAsked}
+use Rattle.promise.specs.Sums.{resetAsked}
 
 -- the shipped device, but for what a change makes of each step
 abbrev pub but : (Device → Input → Step → Step) → Machine

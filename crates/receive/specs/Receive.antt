@@ -11,7 +11,7 @@ use Rattle.filter.specs.declared.Hit.{Hit}
 use Rattle.filter.specs.declared.Hit.the-variants.{Filter, Nothing}
 use Rattle.filter.specs.Lowest.{lowest, filhit}
 use Rattle.frame.specs.declared.Header.{Header}
-use Rattle.frame.specs.Received.{received}
+use Rattle.frame.specs.Received.{received, headerIn, dataIn}
 use Rattle.frame.specs.Tables.{compared}
 use Rattle.chip.specs.declared.Device.{Device}
 use Rattle.chip.specs.Parts.{with-regs, with-filhit, with-rx, with-temp}
@@ -60,6 +60,13 @@ filterFlag Nothing = 0
 
 unfoldable pub queueAfter : Fifo → Message → Bool → Fifo
 queueAfter q m queued = pick queued (put q m) q
+
+-- the own message that runs, as a frame
+abbrev pub ownHeader : Device → Header
+ownHeader d = headerIn (d .buffer .bytes)
+
+abbrev pub ownData : Device → List ℕ
+ownData d = dataIn (d .buffer .bytes)
 
 -- the frame's sixteen bytes, "what it says of the message fixed when stored"
 abbrev pub message : Device → Header → List ℕ → Message

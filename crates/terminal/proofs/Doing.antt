@@ -4,7 +4,7 @@ use mathlib.Core.Bool.{Bool, true, false, not}
 use mathlib.Core.List.{List, [], _∷_}
 use Prim.Native.Nat.{ℕ, _+_, _*_, _/_, _%_, _<_, _≤_}
 use native.Mathlib.Omega.{arith}
-use borrow.Author.Tests.{eqb-false, ne-eqb, lt-leb, lt-ltb}
+use borrow.Author.Tests.{eqb-false, ne-eqb, lt-leb}
 use lib.Bits.{bitOr}
 use lib.Dec.{eqb}
 use Rattle.base.specs.Bit.{isSet}
@@ -132,7 +132,7 @@ module _ (d : Device) (in-range : proper d ≡ true) (listens : Listens d) (few 
 
   pub brought-count : brought d scan .rx .count ≡ d .rx .count + 1
   unfolding heard arrived raised queueAfter isQueued put
-  brought-count = rw (brought-is, lt-ltb (d .rx .count) 8 few)
+  brought-count = rw (brought-is, lt-leb 8 (d .rx .count) few)
 
   brought-flags : Wakes d → brought d scan .regs .intf ≡ 0xC0
   unfolding heard arrived raised queuedFlag isQueued hit filterFlag
