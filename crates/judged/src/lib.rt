@@ -23,19 +23,14 @@ pub enum Answer {
 fn quiet_mode(acting: u8) -> bool
     ensures { λ r. ⌜ r ≡ quietMode acting ⌝ }
 {
-    if acting == INITIALIZATION {
-        true
-    } else {
-        acting == SLEEP
-    }
+    (acting == INITIALIZATION) | (acting == SLEEP)
 }
 
 // Where no error can be met.
 fn no_errors(d: Device) -> bool
     ensures { λ r. ⌜ r ≡ noErrors d ⌝ }
 {
-    let busoff = d.counters.busoff;
-    if quiet_mode(d.acting) { true } else { busoff }
+    quiet_mode(d.acting) | d.counters.busoff
 }
 
 fn runs(d: Device) -> bool
@@ -47,11 +42,7 @@ fn runs(d: Device) -> bool
 fn impossible_frame(h: Header, given: usize) -> bool
     ensures { λ r. ⌜ r ≡ impossibleFrame h given ⌝ }
 {
-    if frame::possible(h) {
-        !frame::data_fits(h, given)
-    } else {
-        true
-    }
+    !(frame::possible(h) & frame::data_fits(h, given))
 }
 
 // 8: impossible fields, or an impossible time.
@@ -62,7 +53,7 @@ pub fn impossible(d: Device, e: Event) -> bool
         Event::GoodFrame(h, _, given) => impossible_frame(h, given),
         Event::ReceiveError(_) => no_errors(d),
         Event::DominantBit => no_errors(d),
-        Event::TransmitError(_, _) => { if runs(d) { no_errors(d) } else { true } }
+        Event::TransmitError(_, _) => !runs(d) | no_errors(d),
         Event::Begun => !transmit::can_begin(d),
         Event::Completed => !runs(d),
         Event::ArbitrationLost => !runs(d),
@@ -79,22 +70,14 @@ pub fn impossible(d: Device, e: Event) -> bool
 fn takes_no_frames(acting: u8) -> bool
     ensures { λ r. ⌜ r ≡ takesNoFrames acting ⌝ }
 {
-    if quiet_mode(acting) {
-        true
-    } else {
-        acting == LOOPBACK
-    }
+    quiet_mode(acting) | (acting == LOOPBACK)
 }
 
 // A monitor acknowledges nothing, so it takes only what another node acknowledged.
 fn unacknowledged(acting: u8, acknowledged: bool) -> bool
     ensures { λ r. ⌜ r ≡ unacknowledged acting acknowledged ⌝ }
 {
-    if acting == MONITOR {
-        !acknowledged
-    } else {
-        false
-    }
+    (acting == MONITOR) & !acknowledged
 }
 
 // What becomes of a good frame from the bus: the first reason that holds.

@@ -41,21 +41,10 @@ pub fn write_ctrl0(d: Device, value: u8) -> Device
 fn can_sleep(d: Device) -> bool
     ensures { λ r. ⌜ r ≡ canSleep d ⌝ }
 {
-    let acting = d.acting;
-    let waiting = d.tx.count;
-    let sending = d.sending;
-    let named = chip::mode_of(d.regs.ctrl0);
-    if named == SLEEP {
-        if acting == SLEEP {
-            false
-        } else if waiting == 0 {
-            sending == IDLE
-        } else {
-            false
-        }
-    } else {
-        false
-    }
+    (chip::mode_of(d.regs.ctrl0) == SLEEP)
+        & (d.acting != SLEEP)
+        & (d.tx.count == 0)
+        & (d.sending == IDLE)
 }
 
 // The bus is quiet: a sleep that waits may begin.
@@ -69,16 +58,14 @@ pub fn bus_quiet(d: Device) -> Device
 pub fn bus_activity(d: Device) -> Device
     ensures { λ r. ⌜ r ≡ busActivity d ⌝ }
 {
-    let acting = d.acting;
     let ctrl0 = d.regs.ctrl0;
-    if acting == SLEEP {
-        if (ctrl0 >> 4) % 2 == 1 {
-            let woken = ctrl0 % 32 + 64;
-            let mut e = d;
-            e.regs.ctrl0 = woken;
-            let f = changed(e, MONITOR);
-            return flags::raised(f, flags::WAKEUP);
-        }
+    if (d.acting == SLEEP) & ((ctrl0 >> 4) % 2 == 1) {
+        let woken = ctrl0 % 32 + 64;
+        let mut e = d;
+        e.regs.ctrl0 = woken;
+        let f = changed(e, MONITOR);
+        flags::raised(f, flags::WAKEUP)
+    } else {
+        d
     }
-    d
 }

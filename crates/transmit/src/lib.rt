@@ -16,32 +16,18 @@ use fifo::Message;
 fn sends(acting: u8) -> bool
     ensures { λ r. ⌜ r ≡ sends acting ⌝ }
 {
-    if acting == NORMAL {
-        true
-    } else {
-        acting == LOOPBACK
-    }
+    (acting == NORMAL) | (acting == LOOPBACK)
 }
 
 // Whether a message may begin now.
 pub fn can_begin(d: Device) -> bool
     ensures { λ r. ⌜ r ≡ canBegin d ⌝ }
 {
-    let sending = d.sending;
-    let waiting = d.tx.count;
-    let busoff = d.counters.busoff;
-    let acting = d.acting;
-    if sending == IDLE {
-        if waiting == 0 {
-            false
-        } else if chip::enabled(d) {
-            if sends(acting) { !busoff } else { false }
-        } else {
-            false
-        }
-    } else {
-        false
-    }
+    (d.sending == IDLE)
+        & (d.tx.count != 0)
+        & chip::enabled(d)
+        & sends(d.acting)
+        & !d.counters.busoff
 }
 
 fn without_tx1m(ctrl1: u8) -> u8

@@ -8,9 +8,5 @@ returns : tie.Need-returns
 unfolding quietMode
 returns c = search (picks, judges)
 
-returns-2 : tie.Need-returns-2
-unfolding quietMode
-returns-2 c = search (picks, judges)
-
 pub quiet-mode-spec : {M : Type 1} → statement M
-quiet-mode-spec = tie.close (tie.spec returns returns-2)
+quiet-mode-spec = tie.close (tie.spec returns)

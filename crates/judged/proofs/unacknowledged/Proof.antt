@@ -8,9 +8,5 @@ returns : tie.Need-returns
 unfolding unacknowledged
 returns c = search (picks, judges)
 
-returns-2 : tie.Need-returns-2
-unfolding unacknowledged
-returns-2 c = search (picks, judges)
-
 pub unacknowledged-spec : {M : Type 1} → statement M
-unacknowledged-spec = tie.close (tie.spec returns returns-2)
+unacknowledged-spec = tie.close (tie.spec returns)
