@@ -1,6 +1,6 @@
 -- The numbers 5 to 7 are all that is left to ask of a command of the right length with room for its reply. Assumes nothing.
 use mathlib.Core.Path.{_≡_, refl}
-use mathlib.Core.Bool.{Bool, true, false}
+use mathlib.Core.Bool.{true, false, not, and-false}
 use mathlib.Core.List.{List}
 use Prim.Native.Nat.{ℕ, _+_}
 use native.Mathlib.Omega.{arith}
@@ -19,7 +19,6 @@ use Rattle.commands.specs.Table.{rows, lookup}
 use Rattle.refused.specs.Refused.{lengthFits, setsUp, outsideSetUp, findsFull, readsMessage, findsNone}
 use Rattle.promise.specs.Sequence.{spi}
 use Rattle.promise.specs.Numbers.{row, firstSaying}
-use Rattle.promise.proofs.Choices.{pick-under}
 
 module _ (d : Device) where
   pub last : ℕ → ℕ
@@ -41,7 +40,7 @@ module _ (d : Device) where
 
   never-set-up : (verb : ℕ) → setsUp verb ≡ false → outsideSetUp (d .acting) verb ≡ false
   unfolding outsideSetUp
-  never-set-up verb none = pick-under (λ (b : Bool). b ≡ false) (eqb (d .acting) initialization) _ _ (λ inside. refl) (λ out. none)
+  never-set-up verb none = rw (none, and-false (not (eqb (d .acting) initialization)))
 
   -- a command that reads a message is refused only when none waits
   pub read-last : (verb : ℕ) → setsUp verb ≡ false → findsFull (d .tx .count) verb ≡ false → readsMessage verb ≡ true

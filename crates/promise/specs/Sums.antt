@@ -52,15 +52,15 @@ resetMet Unknown = false
 -- ---- REC, TEC, bus off and its groups
 
 -- "Good frame …, answered Queued, A4 or A5": it reached the temporary buffer
-abbrev pub reached : Given → Bool
-reached (replied n buffer) = false
-reached (answered (Refused n)) = false
-reached (answered Done) = false
-reached (answered (Arrived what)) = reachesTemporary what
+abbrev pub lookedAt : Given → Bool
+lookedAt (replied n buffer) = false
+lookedAt (answered (Refused n)) = false
+lookedAt (answered Done) = false
+lookedAt (answered (Arrived what)) = reachesTemporary what
 
 -- the rule of an event that was not refused
 abbrev pub countedEvent : ℕ → Bool → Counters → Event → Given → Counters
-countedEvent acting recovers c (GoodFrame h acknowledged n) given = pick (reached given) (countedFrame c acting) c
+countedEvent acting recovers c (GoodFrame h acknowledged n) given = pick (lookedAt given) (countedFrame c acting) c
 countedEvent acting recovers c (ReceiveError kind) given = countedReceiveError c acting
 countedEvent acting recovers c DominantBit given = countedDominant c acting
 countedEvent acting recovers c (TransmitError kind counted) given = countedTransmitError c acting counted

@@ -31,11 +31,11 @@ unfoldable pub setsUp : ℕ → Bool
 setsUp v = among v ((writeBtr0, true) ∷ (writeBtr1, true) ∷ (writeFilter, true) ∷ (writeMask, true) ∷ []) false
 
 unfoldable pub outsideSetUp : ℕ → ℕ → Bool
-outsideSetUp acting v = pick (eqb acting initialization) false (setsUp v)
+outsideSetUp acting v = not (eqb acting initialization) && setsUp v
 
 -- 6: "a message is written and eight are in the transmit FIFO", by how many there are
 unfoldable pub findsFull : ℕ → ℕ → Bool
-findsFull waiting v = pick (eqb v writeMessage) (eightWait waiting) false
+findsFull waiting v = eqb v writeMessage && eightWait waiting
 
 -- 7: "a receive FIFO or history read finds none", by how many messages and entries there are
 unfoldable pub readsMessage : ℕ → Bool

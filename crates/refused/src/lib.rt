@@ -49,22 +49,14 @@ fn sets_up(v: u8) -> bool
 fn outside_set_up(acting: u8, v: u8) -> bool
     ensures { λ r. ⌜ r ≡ outsideSetUp acting v ⌝ }
 {
-    if acting == INITIALIZATION {
-        false
-    } else {
-        sets_up(v)
-    }
+    (acting != INITIALIZATION) & sets_up(v)
 }
 
 // 6: a message is written and eight are in the transmit FIFO.
 fn finds_full(waiting: u8, v: u8) -> bool
     ensures { λ r. ⌜ r ≡ findsFull waiting v ⌝ }
 {
-    if v == verb::WRITE_MESSAGE {
-        8 <= waiting
-    } else {
-        false
-    }
+    (v == verb::WRITE_MESSAGE) & (8 <= waiting)
 }
 
 fn reads_message(v: u8) -> bool

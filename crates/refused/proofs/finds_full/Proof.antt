@@ -8,9 +8,5 @@ returns : tie.Need-returns
 unfolding findsFull
 returns c = search (picks, judges)
 
-returns-2 : tie.Need-returns-2
-unfolding findsFull
-returns-2 c = search (picks, judges)
-
 pub finds-full-spec : {M : Type 1} → statement M
-finds-full-spec = tie.close (tie.spec returns returns-2)
+finds-full-spec = tie.close (tie.spec returns)
