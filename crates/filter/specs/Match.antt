@@ -22,10 +22,6 @@ uncounted = 31
 abbrev pub countedOf : List ℕ → ℕ → ℕ
 countedOf mask k = pick (eqb k uncounted) 0 (placeOf mask k)
 
--- the same of a whole byte: byte j of a mask, from 0, without the bit that doesn't count
-abbrev pub countedByte : ℕ → ℕ → ℕ
-countedByte j x = pick (eqb j 3) (x / 2 * 2) x
-
 -- "A filter matches when all counted bits agree": at each of the first n places the mask has 0, or frame and filter are alike.
 -- It is said of any bits and any number of them, so that another device, or an engine that walks, can cite it.
 abbrev pub agree : ℕ → (ℕ → ℕ) → (ℕ → ℕ) → (ℕ → ℕ) → Bool
@@ -34,3 +30,9 @@ agree (suc n) frame filter mask = agree n frame filter mask && (eqb (mask n) 0 |
 
 unfoldable pub matches : List ℕ → List ℕ → List ℕ → Bool
 matches vector filter mask = agree 48 (placeOf vector) (placeOf filter) (countedOf mask)
+
+-- ---- for the code's own step
+
+-- byte j of a mask, from 0, without the bit that doesn't count: the uncounted place is the last of its byte
+abbrev pub countedByte : ℕ → ℕ → ℕ
+countedByte j x = pick (eqb j (uncounted / 8)) (x / 2 * 2) x
