@@ -17,12 +17,8 @@ same-length : tie.Need-same-length Inv-loop μ-loop
 same-length c =
     search (
       needs,
-      c .before .slice-known4 .given,
-      c .before .before .out .given,
       c .before .before .before .before .before .before .before .before .slice-known3 .given,
       c .before .before .before .before .before .before .before .before .before .line .given,
-      c .before .before .before .before .before .before .before .before .before .before .gather .ensures,
-      c .before .before .before .before .before .before .before .before .before .before .before .before .loop-test .taken,
       c .before .before .before .before .before .before .before .before .before .before .before .before .before .loop .inv,
     )
 
@@ -32,10 +28,6 @@ same-length-2 c =
       needs,
       c .before .slice-known4 .given,
       c .before .before .out .given,
-      c .before .before .before .before .before .before .before .before .slice-known3 .given,
-      c .before .before .before .before .before .before .before .before .before .line .given,
-      c .before .before .before .before .before .before .before .before .before .before .gather .ensures,
-      c .before .before .before .before .before .before .before .before .before .before .before .before .loop-test .taken,
       c .before .before .before .before .before .before .before .before .before .before .before .before .before .loop .inv,
     )
 
