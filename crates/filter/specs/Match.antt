@@ -33,6 +33,6 @@ matches vector filter mask = agree 48 (placeOf vector) (placeOf filter) (counted
 
 -- ---- for the code's own step
 
--- byte j of a mask, from 0, without the bit that doesn't count: the uncounted place is the last of its byte
+-- byte j of a mask, from 0, without the bit that doesn't count; `counted-place` (proofs/Bytes) holds it against the rule
 abbrev pub countedByte : ℕ → ℕ → ℕ
-countedByte j x = pick (eqb j (uncounted / 8)) (x / 2 * 2) x
+countedByte j x = pick (eqb j 3) (x / 2 * 2) x
