@@ -1,61 +1,15 @@
-// The worked numbers of document 01 that are run, and its five errors of a hurried builder as scenarios: a line for each, held
-// against the crate's file `stdout`.
+// The worked numbers of document 01 that are run, its five errors of a hurried builder as scenarios, and the inputs that no script
+// of `face` can bring: a line for each, held against the crate's file `stdout`.
+mod ranges;
+mod say;
+
 use chip::Device;
 use events::Event;
 use frame::Header;
-use judged::Answer;
-use libc::STDOUT_FILENO;
-use receive::Arrival;
-
-const DIGITS: [u8; 16] = [
-    b'0',
-    b'1',
-    b'2',
-    b'3',
-    b'4',
-    b'5',
-    b'6',
-    b'7',
-    b'8',
-    b'9',
-    b'A',
-    b'B',
-    b'C',
-    b'D',
-    b'E',
-    b'F',
-];
-
-fn say(t: &[u8]) {
-    io::write_all(STDOUT_FILENO, t);
-}
-
-fn say_byte(b: u8) {
-    say(&[b' ', DIGITS[(b / 16) as usize], DIGITS[(b % 16) as usize]]);
-}
-
-fn say_number(n: u8) {
-    say(&[b' ', DIGITS[(n % 10) as usize]]);
-}
-
-fn say_arrival(what: Arrival) {
-    match what {
-        Arrival::Queued => say(b" Queued"),
-        Arrival::A1 => say(b" A1"),
-        Arrival::A2 => say(b" A2"),
-        Arrival::A3 => say(b" A3"),
-        Arrival::A4 => say(b" A4"),
-        Arrival::A5 => say(b" A5"),
-    }
-}
-
-fn say_answer(a: Answer) {
-    match a {
-        Answer::Refused(n) => say_number(n),
-        Answer::Done => say_number(0),
-        Answer::Arrived(what) => say_arrival(what),
-    }
-}
+use say::say;
+use say::say_answer;
+use say::say_byte;
+use say::say_number;
 
 // A transfer with sixteen bytes lent: says its number.
 fn transfer(d: Device, bytes: &[u8]) -> Device {
@@ -124,15 +78,15 @@ fn normal() -> Device {
     quietly(chip::fresh(), &[0x14, 0x00])
 }
 
-// Normal mode with filtering on: every filter asks for identifier 0x123.
-fn filtering() -> Device {
+// Normal mode with filtering on: every filter asks for identifier 0x123, and where that counts for a first data byte.
+fn filtering(first: u8, counts: u8) -> Device {
     let mut d = chip::fresh();
     let filters = [0x62, 0x64, 0x66, 0x68, 0x6A, 0x6C, 0x6E, 0x72];
     let masks = [0x74, 0x76, 0x78, 0x7A, 0x7C, 0x7E, 0x82, 0x84];
     let mut i: usize = 0;
     while i < 8 {
-        d = quietly(d, &[filters[i], 0x24, 0x60, 0, 0, 0, 0]);
-        d = quietly(d, &[masks[i], 0xFF, 0xE0, 0, 0, 0, 0]);
+        d = quietly(d, &[filters[i], 0x24, 0x60, 0, 0, first, 0]);
+        d = quietly(d, &[masks[i], 0xFF, 0xE0, 0, 0, counts, 0]);
         i += 1;
     }
     d = quietly(d, &[0x16, 0x10]);
@@ -208,7 +162,7 @@ fn length_code_nine() {
 
 fn filtered_off() {
     say(b"a frame that no filter matches, in the temporary buffer:");
-    let d = scan(filtering(), 0x124);
+    let d = scan(filtering(0, 0), 0x124);
     read(d, 0x44, 5);
     say(b"\n");
 }
@@ -223,8 +177,31 @@ fn short_buffer() {
 
 fn stranger_at_a_full_queue() {
     say(b"a full queue, a stranger's frame, one of ours:");
-    let d = scan(full_queue(filtering()), 0x124);
+    let d = scan(full_queue(filtering(0, 0)), 0x124);
     scan(d, 0x123);
+    say(b"\n");
+}
+
+// What stands in the payload behind the frame's own bytes is nothing to filters and reads.
+fn payload_behind_the_count() {
+    say(
+        b"filters that ask for AA: a frame without data, AA behind it; one with AA, 55 behind it, and as read:",
+    );
+    let d = frame_with(filtering(0xAA, 0xFF), 0x123, 0, 0, [0xAA; 8]);
+    let d = frame_with(
+        d,
+        0x123,
+        1,
+        1,
+        [0xAA, 0x55, 0x55, 0x55, 0x55, 0x55, 0x55, 0x55],
+    );
+    read(d, 0x48, 14);
+    say(b"\n");
+}
+
+fn unknown_kind() {
+    say(b"an event of no kind that there is:");
+    happens(normal(), Event::Unknown);
     say(b"\n");
 }
 
@@ -238,4 +215,7 @@ fn main() {
     filtered_off();
     short_buffer();
     stranger_at_a_full_queue();
+    payload_behind_the_count();
+    unknown_kind();
+    ranges::each();
 }

@@ -5,10 +5,10 @@ use Rattle.vectors.proofs.filtering.Statement.{statement}
 use Rattle.vectors.proofs.filtering.Tie as tie
 
 abbrev Inv-loop : tie.InvT-loop
-Inv-loop d₀ filters masks i₀ t5 t6 d i = i ≤ 8
+Inv-loop first counts d₀ filters masks i₀ t5 t6 d i = i ≤ 8
 
 abbrev μ-loop : tie.MeasureT-loop
-μ-loop d₀ filters masks i₀ t5 t6 d i = 8 - i
+μ-loop first counts d₀ filters masks i₀ t5 t6 d i = 8 - i
 
 pub filtering-spec : {M : Type 1} → statement M
 filtering-spec =

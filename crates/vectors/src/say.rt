@@ -1,0 +1,54 @@
+// What the vectors print.
+use judged::Answer;
+use libc::STDOUT_FILENO;
+use receive::Arrival;
+
+const DIGITS: [u8; 16] = [
+    b'0',
+    b'1',
+    b'2',
+    b'3',
+    b'4',
+    b'5',
+    b'6',
+    b'7',
+    b'8',
+    b'9',
+    b'A',
+    b'B',
+    b'C',
+    b'D',
+    b'E',
+    b'F',
+];
+
+pub(crate) fn say(t: &[u8]) {
+    io::write_all(STDOUT_FILENO, t);
+}
+
+pub(crate) fn say_byte(b: u8) {
+    say(&[b' ', DIGITS[(b / 16) as usize], DIGITS[(b % 16) as usize]]);
+}
+
+pub(crate) fn say_number(n: u8) {
+    say(&[b' ', DIGITS[(n % 10) as usize]]);
+}
+
+pub(crate) fn say_arrival(what: Arrival) {
+    match what {
+        Arrival::Queued => say(b" Queued"),
+        Arrival::A1 => say(b" A1"),
+        Arrival::A2 => say(b" A2"),
+        Arrival::A3 => say(b" A3"),
+        Arrival::A4 => say(b" A4"),
+        Arrival::A5 => say(b" A5"),
+    }
+}
+
+pub(crate) fn say_answer(a: Answer) {
+    match a {
+        Answer::Refused(n) => say_number(n),
+        Answer::Done => say_number(0),
+        Answer::Arrived(what) => say_arrival(what),
+    }
+}
