@@ -18,7 +18,7 @@ type Scene = fn(&mut Drawer);
 
 /// Scenes with their weights. Each script multiplies the weights by small numbers of its own, zero
 /// among them: a script without reads fills its queues, one without resets goes deep.
-const SCENES: [(Scene, usize); 19] = [
+const SCENES: [(Scene, usize); 23] = [
     (Drawer::arrivals, 6),
     (Drawer::set_filters, 3),
     (Drawer::filtered_arrivals, 7),
@@ -26,11 +26,15 @@ const SCENES: [(Scene, usize); 19] = [
     (Drawer::send, 12),
     (Drawer::send_in_loopback, 5),
     (Drawer::one_shot, 3),
+    (Drawer::left_alone, 18),
+    (Drawer::full_history, 2),
     (Drawer::count_errors, 6),
     (Drawer::go_bus_off, 2),
     (Drawer::recessive_groups, 2),
     (Drawer::change_mode, 4),
     (Drawer::sleep, 5),
+    (Drawer::initialization_again, 6),
+    (Drawer::commands_asleep, 7),
     (Drawer::enable_pins, 4),
     (Drawer::pass_time, 2),
     (Drawer::drain, 3),
@@ -57,7 +61,7 @@ pub fn draw(seed: u64, requests: usize) -> Vec<String> {
     };
     let habits = SCENES.map(|(_, weight)| weight * drawer.random.pick(&[0, 1, 1, 1, 3]));
     let body = if requests > 120 {
-        requests - 60
+        requests - 45
     } else {
         requests
     };
@@ -101,6 +105,11 @@ impl Drawer {
         self.script.push(line);
     }
 
+    pub fn say_any(&mut self, lines: &[&str]) {
+        let line = self.random.pick(lines);
+        self.say(line);
+    }
+
     pub fn spi(&mut self, bytes: &[u8]) {
         let row = TABLE_1.iter().find(|&&(command, ..)| command == bytes[0]);
         let reply = row.map_or(0, |&(_, _, reply, _)| reply);
@@ -119,6 +128,16 @@ impl Drawer {
         } else {
             let code = self.random.pick(&PEEKS);
             self.spi(&[code]);
+        }
+    }
+
+    /// Most of these reads, any of them first, since one may take what another would show.
+    pub fn look_at(&mut self, codes: &[u8]) {
+        let first = self.random.below(codes.len());
+        for place in first..first + codes.len() {
+            if self.random.chance(65) {
+                self.spi(&[codes[place % codes.len()]]);
+            }
         }
     }
 
@@ -141,7 +160,7 @@ impl Drawer {
             let mode = self.random.pick(&[0x00, 0x00, 0x00, 0x20, 0x20, 0x40]);
             self.ctrl0(mode);
         }
-        if self.device().bus_off && self.random.chance(15) {
+        if self.device().bus_off && self.random.chance(25) {
             self.recessive_groups();
         }
     }
@@ -156,7 +175,7 @@ impl Drawer {
         for code in [0xD2, 0xDA, 0xDC, 0xDE, 0xE2, 0xEA, 0xEC, 0xF8, 0xFA, 0x42] {
             self.spi(&[code]);
         }
-        let rest = [0xD4, 0xD6, 0xD8, 0xE4, 0xE6, 0xE8];
+        let rest = [0xD4, 0xD6, 0xD8, 0xE4, 0xE6, 0xE8, 0xA4, 0xBE];
         for code in rest {
             self.spi(&[code]);
         }

@@ -1,13 +1,9 @@
 //! Scenes of errors: the counters at their edges, bus off and the way back.
 
-use crate::device::{CTRL0_BOR, CTRL0_RESET, RECOVERY_GROUPS};
+use crate::device::{Mode, CTRL0_BOR, CTRL0_RESET, RECOVERY_GROUPS};
 use crate::draw::Drawer;
 
 const KINDS: [&str; 5] = ["stuff", "ack", "crc", "form", "bit"];
-/// Counter values at which one step more or less shows.
-const EDGES: [u8; 20] = [
-    0, 1, 2, 7, 87, 88, 94, 95, 96, 97, 119, 120, 126, 127, 128, 129, 247, 248, 254, 255,
-];
 
 impl Drawer {
     pub fn say_error(&mut self, event: &str, suffix: &str) {
@@ -15,31 +11,57 @@ impl Drawer {
         self.say(&format!("{} {}{}", event, kind, suffix));
     }
 
+    /// One step of a counter from where it shows, and looks before the next.
     pub fn count_errors(&mut self) {
-        for code in [0x24, 0x26] {
-            let value = self.random.pick(&EDGES);
-            if self.random.chance(50) {
-                self.spi(&[code, value]);
-            }
-        }
-        for _ in 0..self.random.between(1, 3) {
-            match self.random.below(6) {
-                0 => self.say_error("rxerr", ""),
-                1 => self.say("dominant"),
-                2 => self.arrivals(),
-                3 => {
+        for _ in 0..self.random.between(1, 4) {
+            match self.random.below(8) {
+                0 => {
+                    self.test_write(0x24, &[0, 95, 127, 255]);
+                    self.say_error("rxerr", "");
+                }
+                1 | 2 => {
+                    self.test_write(0x24, &[87, 88, 119, 120, 247, 248, 255]);
+                    self.say("dominant");
+                }
+                3 | 4 => {
+                    self.test_write(0x24, &[0, 1, 97, 127, 127, 128, 255]);
+                    self.counted_arrival();
+                }
+                5 => {
+                    self.test_write(0x26, &[0, 1, 96, 97, 128, 129]);
                     self.start();
                     self.say("done");
                 }
                 _ => {
+                    self.test_write(0x26, &[87, 88, 119, 120, 247, 248, 255]);
                     self.start();
                     self.say_error("txerr", " counted");
                 }
             }
-            let code = self.random.pick(&[0xEA, 0xEC, 0xEC, 0xE2, 0xDC]);
-            self.spi(&[code]);
+            self.look_at(&[0xEA, 0xEC, 0xE2, 0xDC]);
         }
-        self.peek();
+        if self.random.chance(20) {
+            // Where errors are told and not counted.
+            self.ctrl0(0x40);
+            self.say_error("rxerr", "");
+            self.look_at(&[0xEA, 0xDC, 0xDE]);
+        }
+    }
+
+    /// Mostly: else the step is one from wherever the counter stands.
+    pub fn test_write(&mut self, code: u8, edges: &[u8]) {
+        let value = self.random.pick(edges);
+        if self.random.chance(75) {
+            self.spi(&[code, value]);
+        }
+    }
+
+    /// Only normal mode counts a frame.
+    fn counted_arrival(&mut self) {
+        if self.device().acting != Mode::Normal && self.random.chance(60) {
+            self.ctrl0(0x00);
+        }
+        self.one_arrival();
     }
 
     pub fn go_bus_off(&mut self) {
@@ -53,27 +75,36 @@ impl Drawer {
             self.start();
             self.say_error("txerr", " counted");
         }
+        self.say("recessive");
         for _ in 0..self.random.between(2, 8) {
-            match self.random.below(8) {
+            match self.random.below(11) {
                 0 => self.spi(&[0x26, 0x00]),
                 1 => self.count_errors(),
                 2 => self.arrivals(),
                 3 => self.say("begin"),
                 4 => self.say("recessive"),
-                5 => self.spi(&[0xDC]),
+                5 | 6 => self.reset_once(),
+                7 | 8 => self.any_mode(),
                 _ => self.peek(),
             }
+            let code = self.random.pick(&[0xF8, 0xF8, 0xEC, 0xE2]);
+            self.spi(&[code]);
         }
     }
 
+    /// Groups count in every mode, asleep too.
+    fn any_mode(&mut self) {
+        let awake = self.random.pick(&[0x00, 0x20, 0x40, 0x80, 0xE0]);
+        let mode = self.random.pick(&[awake, 0x60]);
+        self.ctrl0(mode);
+        self.spi(&[0x54]);
+        self.say("quiet");
+    }
+
     pub fn recessive_groups(&mut self) {
-        let target = self.random.pick(&[1, 3, 40, 126, 127, 127]);
-        if self.random.chance(30) {
-            // Groups count in every mode, asleep too.
-            let mode = self.random.pick(&[0x00, 0x20, 0x40, 0x60, 0x60, 0x80]);
-            self.ctrl0(mode);
-            self.spi(&[0x54]);
-            self.say("quiet");
+        let target = self.random.pick(&[1, 126, 127, 127]);
+        if self.random.chance(75) {
+            self.any_mode();
         }
         self.say("recessive");
         if self.device().bus_off {
@@ -86,15 +117,20 @@ impl Drawer {
         if self.device().groups < RECOVERY_GROUPS - 2 {
             return;
         }
-        for _ in 0..self.random.between(1, 6) {
-            if self.random.chance(30) {
-                let flip = self.random.pick(&[0, CTRL0_BOR, CTRL0_BOR]);
-                let value = self.device().ctrl0 & !CTRL0_RESET ^ flip;
-                self.spi(&[0x14, value]);
+        for _ in 0..self.random.between(2, 6) {
+            match self.random.below(5) {
+                0 | 1 => {
+                    let value = self.device().ctrl0 & !CTRL0_RESET ^ CTRL0_BOR;
+                    self.spi(&[0x14, value]);
+                }
+                2 | 3 => self.any_mode(),
+                _ => {}
             }
-            let code = self.random.pick(&[0xF8, 0xF8, 0xDC, 0xEA, 0xEC, 0xE2]);
-            self.spi(&[code]);
             self.say("recessive");
+            self.look_at(&[0xF8, 0xDC, 0xEA, 0xEC, 0xE2, 0xD2, 0xDE]);
+            if !self.device().bus_off {
+                break;
+            }
         }
     }
 }

@@ -1,6 +1,6 @@
 //! Scenes of the host: modes, sleep, pins, time, resets, and transfers that are refused.
 
-use crate::commands::{Command, Job, TABLE_1};
+use crate::commands::{Job, TABLE_1};
 use crate::device::Mode;
 use crate::draw::Drawer;
 
@@ -17,14 +17,38 @@ impl Drawer {
         }
     }
 
-    /// Filters, masks and bit timing in whatever mode acts.
-    fn locked_write(&mut self) {
-        let locked = |&&(code, ..): &&Command| matches!(code, 0x18 | 0x1A | 0x62..=0x84);
-        let rows: Vec<&Command> = TABLE_1.iter().filter(locked).collect();
-        let &(command, length, ..) = self.random.pick(&rows);
-        let mut bytes = vec![command];
-        bytes.extend((0..length.unwrap_or(0)).map(|_| self.random.byte()));
+    /// Something of most kinds that a change of mode has to leave as it is.
+    pub fn something_to_lose(&mut self) {
+        self.ctrl0(0x20);
+        self.pass_time();
+        self.start();
+        self.say("done");
+        self.say_error("rxerr", "");
+        let (rec, tec) = (self.random.byte(), self.random.byte());
+        self.spi(&[0x24, rec]);
+        self.spi(&[0x26, tec]);
+    }
+
+    /// With drawn bytes behind it, as many as it takes.
+    pub fn command(&mut self, code: u8) {
+        let row = TABLE_1.iter().find(|&&(command, ..)| command == code);
+        let length = row.and_then(|&(_, length, ..)| length).unwrap_or(0);
+        let mut bytes = vec![code];
+        bytes.extend((0..length).map(|_| self.random.byte()));
         self.spi(&bytes);
+    }
+
+    /// Filters, masks and bit timing in whatever mode acts, and whether they were written.
+    pub fn locked_write(&mut self) {
+        let locked = |&code: &u8| matches!(code, 0x18 | 0x1A | 0x62..=0x84);
+        let codes = TABLE_1.iter().map(|&(code, ..)| code).filter(locked);
+        let codes: Vec<u8> = codes.collect();
+        let any = self.random.pick(&codes);
+        let code = self.random.pick(&[any, any, 0x18, 0x1A]);
+        self.command(code);
+        // Table 1 puts each of these reads at a fixed distance behind its write.
+        let step = if code < 0x62 { 0xBE } else { 0x40 };
+        self.spi(&[code + step]);
     }
 
     pub fn sleep(&mut self) {
@@ -75,6 +99,12 @@ impl Drawer {
         }
     }
 
+    pub fn turn_txen_pin(&mut self) {
+        let high = self.device().txen_pin;
+        self.say(if high { "txen 0" } else { "txen 1" });
+        self.spi(&[0xDA]);
+    }
+
     pub fn pass_time(&mut self) {
         let count = match self.random.below(6) {
             0 => self
@@ -91,7 +121,7 @@ impl Drawer {
         self.spi(&[0xFA]);
     }
 
-    pub fn reset(&mut self) {
+    pub fn reset_once(&mut self) {
         match self.random.below(3) {
             0 => self.say("mr"),
             1 => self.spi(&[0x56]),
@@ -101,6 +131,10 @@ impl Drawer {
                 self.spi(&[0xD2]);
             }
         }
+    }
+
+    pub fn reset(&mut self) {
+        self.reset_once();
         if self.random.chance(70) {
             self.look_at_everything();
         }

@@ -40,11 +40,15 @@ impl Drawer {
         ));
     }
 
+    pub fn one_arrival(&mut self) {
+        let frame = self.any_frame();
+        self.say_frame(&frame);
+    }
+
     pub fn arrivals(&mut self) {
         let count = self.random.pick(&[1, 1, 2, 3, 9, 10]);
         for _ in 0..count {
-            let frame = self.any_frame();
-            self.say_frame(&frame);
+            self.one_arrival();
             if self.random.chance(30) {
                 self.peek();
             }
@@ -115,7 +119,9 @@ impl Drawer {
         if self.random.chance(60) {
             // Mostly a bit that counts; bits of an identifier only where the frame has them.
             let standard = wanted[1] & 0x08 == 0;
-            let mut bit = self.random.below(48);
+            let any = self.random.below(48);
+            // RTR more often: it has no neighbour that shows the same mistake.
+            let mut bit = self.random.pick(&[any, any, any, any, any, 11]);
             for _ in 0..20 {
                 let lacking = standard && (13..32).contains(&bit);
                 if !lacking && mask[bit / 8] << (bit % 8) & 0x80 != 0 {
@@ -153,16 +159,22 @@ impl Drawer {
             let others = self.random.pick(&[0x00, 0x80, 0x4F]);
             self.spi(&[0x16, CTRL1_FILTON | others]);
         }
-        for _ in 0..self.random.between(3, 14) {
+        self.test_write(0x24, &[2, 60, 130]);
+        // Without reads the FIFO fills up, and still the filters have the first word.
+        let (count, looks): (usize, &[u8]) = if self.random.chance(25) {
+            (20, &[0xDA, 0xDE, 0xEA])
+        } else {
+            let count = self.random.between(3, 12);
+            (count, &[0xDA, 0xDA, 0xDE, 0xEA, 0x42, 0x46, 0x48, 0x4C])
+        };
+        for _ in 0..count {
             let frame = if self.random.chance(90) {
                 self.frame_at_filter()
             } else {
                 self.any_frame()
             };
             self.say_frame(&frame);
-            let look = self
-                .random
-                .pick(&[0xDA, 0xDA, 0xDE, 0x42, 0x46, 0x48, 0x4C]);
+            let look = self.random.pick(looks);
             if self.random.chance(60) {
                 self.spi(&[look]);
             }

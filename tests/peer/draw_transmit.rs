@@ -49,7 +49,7 @@ impl Drawer {
         self.spi(&[0xE2]);
     }
 
-    fn enable(&mut self) {
+    pub fn enable(&mut self) {
         match self.random.below(8) {
             0 | 1 => self.say("txen 1"),
             2 | 3 => self.ctrl1(0x40),
@@ -150,6 +150,35 @@ impl Drawer {
                 .pick(&[0x42, 0x44, 0x46, 0x46, 0x48, 0x4A, 0xEE]);
             self.spi(&[code]);
         }
+    }
+
+    /// Which messages wait shows only when they go.
+    pub fn send_what_waits(&mut self) {
+        let mode = self.random.pick(&[0x00, 0x20]);
+        self.ctrl0(mode);
+        self.ctrl1(0x80);
+        for _ in 0..3 {
+            self.say("begin");
+            if self.device().running.is_none() {
+                break;
+            }
+            self.say("done");
+            self.say_any(&["spi EE", "spi 46"]);
+        }
+    }
+
+    /// A ninth entry is not stored, also of a message that 0x54 left alone.
+    pub fn full_history(&mut self) {
+        for _ in self.device().history.len()..ROOM {
+            self.start();
+            self.say("done");
+        }
+        self.start();
+        if self.random.chance(50) {
+            self.spi(&[0x54]);
+        }
+        self.say("done");
+        self.look_at(&[0xE2, 0xEE, 0xE2, 0xEE]);
     }
 
     pub fn one_shot(&mut self) {

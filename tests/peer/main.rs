@@ -7,6 +7,7 @@ mod compare;
 mod cut;
 mod device;
 mod draw;
+mod draw_corners;
 mod draw_errors;
 mod draw_host;
 mod draw_receive;
