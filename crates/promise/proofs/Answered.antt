@@ -1,24 +1,29 @@
--- Each answer is the first that 01's table gives, and a refusal leaves all as it came. Assumes nothing.
-use mathlib.Core.Path.{_≡_, refl, sym, _∙_}
-use mathlib.Core.Bool.{Bool, true, false, not, _&&_, _||_}
+-- Each number is the first that 01's table gives, and a refusal leaves all as it came. Assumes nothing.
+use mathlib.Core.Path.{_≡_, refl, sym, _∙_, ap}
+use mathlib.Core.Bool.{Bool, true, false, not, _&&_}
 use mathlib.Core.List.{List}
+use mathlib.Core.Bool.{and-assoc}
 use Prim.Native.Nat.{ℕ}
 use native.Mathlib.Omega.{arith}
 use borrow.Author.Tests.{eqb-true}
-use lib.Dec.{eqb, ltb}
-use lib.ListN.{length}
+use lib.Dec.{eqb}
+use lib.ListN.{length, drop}
 use Rattle.base.specs.Bit.{byte}
 use Rattle.base.specs.Pick.{pick}
+use Rattle.frame.specs.declared.Header.{Header}
+use Rattle.frame.specs.Length.{possible, dataFits}
 use Rattle.chip.specs.declared.Device.{Device}
 use Rattle.chip.specs.Proper.{proper}
-use Rattle.chip.specs.State.{loopback}
+use Rattle.chip.specs.State.{loopback, idle, enabled}
+use Rattle.transmit.specs.Transmit.{sends, canBegin}
 use Rattle.receive.specs.declared.Arrival.{Arrival}
 use Rattle.events.specs.declared.Event.{Event}
-use Rattle.events.specs.declared.Event.the-variants.{GoodFrame, ReceiveError, DominantBit, TransmitError, Begun, Completed, ArbitrationLost, ElevenRecessive}
-use Rattle.events.specs.declared.Event.the-variants.{BusQuiet, BusActivity, Ticks, TxenPin, MrPin, Unknown}
+use Rattle.events.specs.declared.Event.the-variants.{GoodFrame, ReceiveError, DominantBit, TransmitError, Begun, Completed}
+use Rattle.events.specs.declared.Event.the-variants.{ArbitrationLost, ElevenRecessive, BusQuiet, BusActivity, Ticks, TxenPin, MrPin}
+use Rattle.events.specs.declared.Event.the-variants.{Unknown}
 use Rattle.judged.specs.declared.Answer.{Answer}
 use Rattle.judged.specs.declared.Answer.the-variants.{Refused as RefusedEvent, Done, Arrived}
-use Rattle.judged.specs.Judged.{impossible, said, echo}
+use Rattle.judged.specs.Judged.{quietMode, noErrors, runs, impossibleFrame, impossible, said, echo}
 use Rattle.bus.specs.Event.{answer, outcome, event, numberOf}
 use Rattle.commands.specs.declared.Found.{Found}
 use Rattle.commands.specs.declared.Found.the-variants.{At, Nothing}
@@ -26,13 +31,26 @@ use Rattle.commands.specs.declared.Row.{Row}
 use Rattle.commands.specs.Table.{rows, lookup}
 use Rattle.refused.specs.declared.Verdict.{Verdict}
 use Rattle.refused.specs.declared.Verdict.the-variants.{Refused as RefusedTransfer, Accepted}
-use Rattle.refused.specs.Refused.{refusal, rowJudged, verdict, lengthFits, outsideSetUp, findsFull, findsNone}
+use Rattle.refused.specs.Refused.{refusal, rowJudged, verdict, lengthFits}
 use Rattle.host.specs.Transfer.{transfer, outcome as transferred}
 use Rattle.promise.specs.Promises.{EveryInputIsAnswered, TheFirstNumberIsGiven, EachNumberExactly, ARefusalChangesNothing}
 use Rattle.promise.specs.Sequence.{spi, wire, shipped as step, number}
-use Rattle.promise.specs.Numbers.{row, firstSaying, found, numberGiven, Untouched}
+use Rattle.promise.specs.Commands.{rightLength}
+use Rattle.promise.specs.Frames.{canArrive}
+use Rattle.promise.specs.Ranges.{inRange}
+use Rattle.promise.specs.Numbers.{situation, row, cannotBe, numberDue, numberGiven, Untouched}
+use Rattle.promise.proofs.Ranges.{proper-same}
+use Rattle.promise.proofs.Rows.{asked-same, no-command}
 use Rattle.promise.proofs.Steps.{by-transfer, by-event}
+use Rattle.promise.proofs.Shown.{count-same}
+use Rattle.promise.proofs.Written.{fits-same}
 use Rattle.promise.proofs.Lowest.{lowest-first, first-lowest, lowest-le}
+
+-- ---- a frame that can be
+
+pub arrives-same : (h : Header) (count : ℕ) → (possible h && dataFits h count) ≡ canArrive h count
+unfolding possible dataFits
+arrives-same h count = rw (count-same h) (simp and-assoc)
 
 -- ---- transfers
 
@@ -49,35 +67,60 @@ number-kept true n r e = sym (eqb-true n 0 e)
 number-kept false n r e = refl
 
 module _ (d : Device) (bytes buffer : List ℕ) where
-  -- the table's rows, by whether the state is proper, the transfer empty, and by the row found
-  tabled : Bool → Bool → Found → ℕ
-  tabled p q f =
-      pick (not p) 1
-      (pick (not q && not (found (λ r. true) f)) 2
-      (pick (q || found (λ r. not (lengthFits r bytes)) f) 3
-      (pick (found (λ r. ltb (length buffer) (r .out)) f) 4
-      (pick (found (λ r. outsideSetUp (d .acting) (r .verb)) f) 5
-      (pick (found (λ r. findsFull (d .tx .count) (r .verb)) f) 6
-      (pick (found (λ r. findsNone (d .rx .count) (d .history .count) (r .verb)) f) 7
-      0))))))
+  length-same : (r : Row) → lookup rows (byte bytes 1) ≡ At r → lengthFits r bytes ≡ rightLength bytes
+  unfolding lengthFits rightLength
+  length-same r at =
+      let same = asked-same d (byte bytes 1) r at in
+      rw (ap (λ x. x .1) same, ap (λ x. x .2) same, fits-same (drop 1 bytes))
 
-  judged-number : (p q : Bool) (f : Found)
-      → verdictNumber (pick p (pick q (RefusedTransfer 3) (rowJudged d f bytes (length buffer))) (RefusedTransfer 1)) ≡ tabled p q f
-  unfolding tabled rowJudged refusal
-  judged-number false q f = refl
-  judged-number true true f = refl
-  judged-number true false Nothing = refl
-  judged-number true false (At r) = number-kept (eqb (refusal d r bytes (length buffer)) 0) (refusal d r bytes (length buffer)) r refl
+  refusal-same : (r : Row) → lookup rows (byte bytes 1) ≡ At r → eqb (length bytes) 0 ≡ false → inRange d ≡ true
+      → refusal d r bytes (length buffer) ≡ numberDue (situation d) (spi bytes buffer)
+  unfolding refusal numberDue
+  refusal-same r at some fits =
+      let same = asked-same d (byte bytes 1) r at in
+      rw (ap (λ x. x .0) same, ap (λ x. x .1) same, ap (λ x. x .3) same, ap (λ x. x .4) same, ap (λ x. x .5) same, length-same r at, fits, some)
 
-  transfer-first : numberGiven step d (spi bytes buffer) ≡ firstSaying (row d (spi bytes buffer))
-  unfolding transfer verdict tabled
+  -- by whether the state is in range, the transfer empty, and by the row found
+  judged-number : (p q : Bool) (f : Found) → inRange d ≡ p → eqb (length bytes) 0 ≡ q → lookup rows (byte bytes 1) ≡ f
+      → verdictNumber (pick p (pick q (RefusedTransfer 3) (rowJudged d f bytes (length buffer))) (RefusedTransfer 1)) ≡ numberDue (situation d) (spi bytes buffer)
+  unfolding rowJudged numberDue
+  judged-number false q f fits some at = rw fits
+  judged-number true true f fits some at = rw (fits, some)
+  judged-number true false Nothing fits some at = rw (fits, some, no-command (byte bytes 1) at)
+  judged-number true false (At r) fits some at =
+      number-kept (eqb (refusal d r bytes (length buffer)) 0) (refusal d r bytes (length buffer)) r refl
+      ∙ refusal-same r at some fits
+
+  transfer-first : numberGiven step d (spi bytes buffer) ≡ numberDue (situation d) (spi bytes buffer)
+  unfolding transfer verdict
   transfer-first =
       number-of-verdict d bytes (verdict d bytes (length buffer))
-      ∙ judged-number (proper d) (eqb (length bytes) 0) (lookup rows (byte bytes 1))
+      ∙ judged-number (proper d) (eqb (length bytes) 0) (lookup rows (byte bytes 1)) (sym (proper-same d)) refl refl
 
 -- ---- events
 
-number-of-answer : (d : Device) (e : Event) (payload : List ℕ) (a : Answer) → numberOf (outcome d e payload a .answer) ≡ numberOf a
+begin-same : (t : Bool) (rest : Bool) → (t && rest) ≡ (not (not t) && rest)
+begin-same true rest = refl
+begin-same false rest = refl
+
+pub impossible-same : (d : Device) (e : Event) → impossible d e ≡ cannotBe (situation d) e
+unfolding impossible impossibleFrame noErrors quietMode runs canBegin sends enabled cannotBe
+impossible-same d (GoodFrame h acknowledged count) = ap not (arrives-same h count)
+impossible-same d (ReceiveError kind) = refl
+impossible-same d DominantBit = refl
+impossible-same d (TransmitError kind counted) = refl
+impossible-same d Begun = ap not (begin-same (eqb (d .sending) idle) _)
+impossible-same d Completed = refl
+impossible-same d ArbitrationLost = refl
+impossible-same d ElevenRecessive = refl
+impossible-same d BusQuiet = refl
+impossible-same d BusActivity = refl
+impossible-same d (Ticks count) = refl
+impossible-same d (TxenPin level) = refl
+impossible-same d MrPin = refl
+impossible-same d Unknown = refl
+
+pub number-of-answer : (d : Device) (e : Event) (payload : List ℕ) (a : Answer) → numberOf (outcome d e payload a .answer) ≡ numberOf a
 number-of-answer d e payload (RefusedEvent n) = refl
 number-of-answer d e payload Done = refl
 number-of-answer d e payload (Arrived what) = refl
@@ -88,7 +131,7 @@ echo-done true what = refl
 echo-done false what = refl
 
 -- what an event says that isn't refused comes with 0
-said-done : (d : Device) (e : Event) (payload : List ℕ) → numberOf (said d e payload) ≡ 0
+pub said-done : (d : Device) (e : Event) (payload : List ℕ) → numberOf (said d e payload) ≡ 0
 unfolding said echo numberOf
 said-done d (GoodFrame h acknowledged n) payload = refl
 said-done d Completed payload = echo-done (eqb (d .acting) loopback) _
@@ -112,11 +155,12 @@ answer-number false q a e = refl
 answer-number true true a e = refl
 answer-number true false a e = e
 
-event-first : (d : Device) (e : Event) (payload : List ℕ) → numberGiven step d (wire e payload) ≡ firstSaying (row d (wire e payload))
-unfolding event answer
+event-first : (d : Device) (e : Event) (payload : List ℕ) → numberGiven step d (wire e payload) ≡ numberDue (situation d) (wire e payload)
+unfolding event answer numberDue
 event-first d e payload =
     number-of-answer d e payload (answer d e payload)
     ∙ answer-number (proper d) (impossible d e) (said d e payload) (said-done d e payload)
+    ∙ rw (proper-same d, impossible-same d e)
 
 -- ---- the promises
 
@@ -125,12 +169,14 @@ first d (spi bytes buffer) = transfer-first d bytes buffer
 first d (wire e payload) = event-first d e payload
 
 pub within : EveryInputIsAnswered
-within d i = rw (first d i) (lowest-le (row d i) 8 1 8 (omega arith))
+unfolding numberDue
+within d i = rw (first d i) (lowest-le (row (situation d) i) 8 1 8 (omega arith))
 
 pub exactly : EachNumberExactly
+unfolding numberDue
 exactly d i n above below = (
-  (λ is. lowest-first (row d i) 8 1 n above (sym (first d i) ∙ is)),
-  (λ says. first d i ∙ first-lowest (row d i) 8 1 n above (omega arith) says),
+  (λ is. lowest-first (row (situation d) i) 8 1 n above (sym (first d i) ∙ is)),
+  (λ says. first d i ∙ first-lowest (row (situation d) i) 8 1 n above (omega arith) says),
 )
 
 pub refused : ARefusalChangesNothing

@@ -10,6 +10,11 @@ pub pick-part : {A B : Type 0} (part : A → B) (t : Bool) (x y : A) → part (p
 pick-part part true x y = refl
 pick-part part false x y = refl
 
+-- what holds of both sides of two like choices holds of the two
+pub pick-both : {A B : Type 0} (P : A → B → Type 0) (t : Bool) (x y : A) (u v : B) → P x u → P y v → P (pick t x y) (pick t u v)
+pick-both P true x y u v p q = p
+pick-both P false x y u v p q = q
+
 -- neither of two holds
 pub or-left : (a b : Bool) → (a || b) ≡ false → a ≡ false
 or-left a b e = or-eq-false-eq-eq-false-and-eq-false a b .0 e .0

@@ -8,14 +8,14 @@ use Rattle.chip.specs.State.{fresh, modeOf}
 use Rattle.chip.specs.Proper.{proper}
 use Rattle.promise.specs.Promises.{OneIsNeverGiven}
 use Rattle.promise.specs.Sequence.{Input, spi, wire, shipped as step, run}
-use Rattle.promise.specs.Numbers.{row}
+use Rattle.promise.specs.Numbers.{situation, row}
 use Rattle.promise.proofs.Answered.{exactly}
 use Rattle.promise.proofs.Steps.{keeps, by-transfer, by-event}
-use Rattle.promise.proofs.Ranges.{InRange, ranges-proper, empty-fits}
+use Rattle.promise.proofs.Ranges.{InRange, ranges-proper, proper-same, empty-fits}
 use Rattle.promise.proofs.CommandsFit.{does-in}
 use Rattle.promise.proofs.EventsFit.{event-in}
 
-stays : (d : Device) (i : Input) → InRange d → InRange (step d i .device)
+pub stays : (d : Device) (i : Input) → InRange d → InRange (step d i .device)
 stays d (spi bytes buffer) h =
     by-transfer (λ s. InRange (s .device)) d bytes buffer (λ n e wrong. h) (λ r e at. does-in d h (r .verb) (r .index) bytes)
 stays d (wire e payload) h =
@@ -26,14 +26,14 @@ unfolding fresh modeOf
 fresh-in = (empty-fits, empty-fits, empty-fits, refl, refl, refl, refl, refl, refl)
 
 pub reached-in : (is : List Input) → InRange (run step fresh is)
-reached-in is = keeps (λ d (u : Unit {0}) i. u) (λ d u. InRange d) (λ d u i h. stays d i h) fresh tt is fresh-in
+reached-in is = keeps (λ (u : Unit {0}) i given. u) (λ d u. InRange d) (λ d u i h. stays d i h) fresh tt is fresh-in
 
 pub reached : (is : List Input) → proper (run step fresh is) ≡ true
 reached is = ranges-proper (run step fresh is) (reached-in is)
 
-row-one : (d : Device) (i : Input) → row d i 1 ≡ not (proper d)
-row-one d (spi bytes buffer) = refl
-row-one d (wire e payload) = refl
+row-one : (d : Device) (i : Input) → row (situation d) i 1 ≡ not (proper d)
+row-one d (spi bytes buffer) = rw (proper-same d)
+row-one d (wire e payload) = rw (proper-same d)
 
 pub never-one : OneIsNeverGiven
 never-one is i one =

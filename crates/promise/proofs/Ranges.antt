@@ -1,16 +1,66 @@
 -- The ranges that make a device proper, part by part. Assumes nothing.
-use mathlib.Core.Path.{_≡_, refl}
-use mathlib.Core.Bool.{true}
-use Prim.Native.Nat.{ℕ, _<_, _≤_}
+use mathlib.Core.Path.{_≡_, refl, sym}
+use mathlib.Core.Bool.{Bool, true, false, and-assoc, and-true}
+use mathlib.Core.List.{List, [], _∷_}
+use Prim.Native.Nat.{ℕ, zero, suc, _/_, _<_, _≤_}
 use native.Mathlib.Omega.{arith}
-use borrow.Author.Tests.{lt-ltb, le-leb, ltb-true, leb-true, leb-false}
+use borrow.Author.Tests.{lt-ltb, le-leb, lt-leb, ltb-true, ltb-false, leb-true, leb-false, ne-eqb}
 use lib.Dec.{leb, ltb}
+use Rattle.base.specs.Pick.{pick, among}
 use Rattle.base.proofs.Booleans.{and-left, and-right, pick-under}
 use Rattle.fifo.specs.declared.Fifo.{Fifo}
 use Rattle.fifo.specs.declared.Message.{Message}
 use Rattle.fifo.specs.Queue.{empty, full, isEmpty, put, take, inRange}
 use Rattle.chip.specs.declared.Device.{Device}
 use Rattle.chip.specs.Proper.{filhitFits, registersInRange, sendingFits, sendingInRange, actingFits, actingInRange, proper}
+use Rattle.chip.specs.State.{modeOf, normal, loopback, monitor, sleep, initialization}
+use Rattle.promise.specs.Ranges.{runsFit, inRange as inRangeOf}
+use Rattle.promise.specs.Settings.{modeNamed}
+
+-- ---- the mode that CTRL0 names
+
+abbrev modes : List (ℕ × ℕ)
+modes = (0, normal) ∷ (1, loopback) ∷ (2, monitor) ∷ (3, sleep) ∷ []
+
+few : (n : ℕ) → n < 4 → among n modes initialization ≡ n
+few zero below = refl
+few (suc zero) below = refl
+few (suc (suc zero)) below = refl
+few (suc (suc (suc zero))) below = refl
+few (suc (suc (suc (suc n)))) below = absurd (omega arith)
+
+many : (n : ℕ) → 3 < n → among n modes initialization ≡ initialization
+many n above =
+    rw (ne-eqb n 0 (λ e. omega arith), ne-eqb n 1 (λ e. omega arith), ne-eqb n 2 (λ e. omega arith), ne-eqb n 3 (λ e. omega arith))
+
+named : (t : Bool) (ctrl0 : ℕ) → ltb ctrl0 128 ≡ t → pick t (ctrl0 / 32) initialization ≡ modeNamed ctrl0
+unfolding modeNamed
+named true ctrl0 low = sym (few (ctrl0 / 32) (omega (arith, ltb-true ctrl0 128 low)))
+named false ctrl0 high = sym (many (ctrl0 / 32) (omega (arith, ltb-false ctrl0 128 high)))
+
+pub mode-named : (ctrl0 : ℕ) → modeOf ctrl0 ≡ modeNamed ctrl0
+unfolding modeOf
+mode-named ctrl0 = named (ltb ctrl0 128) ctrl0 refl
+
+-- ---- a device is in its ranges exactly if it is proper
+
+runs-fit : (sending toSend : ℕ) → runsFit sending toSend ≡ sendingFits sending toSend
+runs-fit zero toSend = refl
+runs-fit (suc zero) toSend = refl
+runs-fit (suc (suc zero)) toSend = refl
+runs-fit (suc (suc (suc n))) toSend =
+    rw (
+      ne-eqb (suc (suc (suc n))) 0 (λ e. omega arith),
+      ne-eqb (suc (suc (suc n))) 1 (λ e. omega arith),
+      ne-eqb (suc (suc (suc n))) 2 (λ e. omega arith),
+      lt-leb (suc (suc (suc n))) 2 (omega arith),
+    )
+
+pub proper-same : (d : Device) → proper d ≡ inRangeOf d
+unfolding proper registersInRange sendingInRange actingInRange inRange inRangeOf
+proper-same d =
+    rw (runs-fit (d .sending) (d .tx .count), ← mode-named (d .regs .ctrl0))
+    (simp (and-assoc, and-true))
 
 -- One range for each part, in this order: a change of other parts leaves it as it is.
 abbrev pub Ranges : Fifo → Fifo → Fifo → ℕ → ℕ → ℕ → ℕ → ℕ → ℕ → ℕ → Type 0

@@ -1,73 +1,90 @@
 -- No wrong device keeps its promise. Assumes nothing.
 use mathlib.Core.Path.{_≡_, refl, sym, _∙_, ap}
-use mathlib.Core.Bool.{false, false≢true}
+use mathlib.Core.Bool.{Bool, true, false, false≢true}
 use mathlib.Core.List.{List, [], _∷_, _++_, map}
 use Prim.Native.Nat.{ℕ}
-use lib.ListN.{length, replicate}
+use borrow.Author.Tests.{eqb-false}
+use lib.Dec.{eqb}
+use lib.ListN.{length, replicate, getD}
 use Rattle.fifo.specs.declared.Message.{Message}
-use Rattle.chip.specs.State.{fresh}
+use Rattle.frame.specs.Received.{received}
+use Rattle.frame.specs.Tables.{idBits, idAsRead}
+use Rattle.base.specs.Bit.{byte}
+use Rattle.base.specs.Pick.{pick}
 use Rattle.chip.specs.declared.Device.{Device}
-use Rattle.commands.specs.Table.{rows}
-use Rattle.refused.specs.Refused.{lengthFits}
-use Rattle.promise.specs.Outbox.{Running, none, first, alone, outbox, Runs, Sent}
-use Rattle.promise.specs.Readings.{Read}
-use Rattle.promise.specs.Sequence.{Given, replied, answered, Step, shipped, number, run}
-use Rattle.promise.specs.Numbers.{First, Refused, numberGiven, valuesGiven}
-use Rattle.promise.specs.Meaning.{Meaning, frame, reading, clearing, other, means}
-use Rattle.promise.specs.Ledger.{Ledger, hidden, buffered, ledger, Answers, Whole, Due}
-use Rattle.promise.specs.Sums.{Counted, Timed, Seen}
-use Rattle.promise.specs.Interrupts.{Raised}
-use Rattle.promise.specs.Wrong.{shortTakes}
-use Rattle.promise.proofs.Each.{Each}
-use Rattle.promise.proofs.Cases.{Case, lost, undue, unsent, miscounted, mistimed, unseen, unraised, misread, misjudged, refusing, changing, cases, two, tooShort}
-use Rattle.promise.proofs.Sides.{alike, alike-self, allBytes, counts, numbers, silent, numbersDue, runs, runningBytes, sides, differ}
+use Rattle.chip.specs.State.{fresh}
+use Rattle.promise.specs.Sequence.{Input, spi, wire, Given, Step, shipped, number, run}
+use Rattle.promise.specs.Frames.{Frame, blank, message, identifierRead}
+use Rattle.promise.specs.Numbers.{First, Refused, Untouched, numberGiven}
+use Rattle.promise.specs.Outbox.{Running, none, first, alone}
+use Rattle.promise.specs.Recorded.{Due, Each, Runs, recorded, Answers, Settled, Counted, Timed, Seen, Raised, Pinned, Whole, AsArrived, Sent, Same}
+use Rattle.promise.specs.Records.{Records}
+use Rattle.promise.specs.Written.{kept}
+use Rattle.promise.proofs.Cases.{Case, lost, undue, unsettled, miscounted, mistimed, unseen, unraised, unsent, unlike, misshown, misread}
+use Rattle.promise.proofs.Cases.{misjudged, changing, cases}
+use Rattle.promise.proofs.Queues.{Shown}
+use Rattle.promise.proofs.Sides.{alike, alike-self, allBytes, counts, settingBytes, levels, numbers, numbersDue, buffered, runningBytes, sides, differ}
 
 -- the promise that a case breaks
 abbrev pub Promise : Case → Type 0
 Promise (lost w is) = Whole w
-Promise (undue w is i) = Due w
-Promise (unsent w is) = Sent w
+Promise (undue w is i) = Answers w
+Promise (unsettled w is) = Settled w
 Promise (miscounted w is) = Counted w
 Promise (mistimed w is) = Timed w
 Promise (unseen w is) = Seen w
 Promise (unraised w is) = Raised w
-Promise (misread w is r at reads fits room) = Read w
+Promise (unsent w is) = Sent w
+Promise (unlike w is) = Same w
+Promise (misshown look is) = Pinned shipped look
+Promise (misread w is) = AsArrived w
 Promise (misjudged w d i) = First w
-Promise (refusing w d i) = numberGiven w d i ≡ 0
-Promise (changing w d i) = w d i .device .rx .count ≡ d .rx .count
+Promise (changing w d i) = Refused w
 
 -- ---- each promise makes its two sides equal
 
-says-nothing : (given : Given) → valuesGiven given ≡ [] → numbers given ≡ number given ∷ silent given
-says-nothing (replied n buffer) is = refl
-says-nothing (answered a) is = ap (λ l. number (answered a) ∷ l) is
+given-due : (r : Records) (i : Input) (given : Given) → Due r i given → numbers i given ≡ numbersDue r i
+given-due r (spi bytes buffer) given is = ap (numbers (spi bytes buffer)) is
+given-due r (wire e payload) given is = rw (is .0, is .1)
 
-given-due : (d : Device) (l : Ledger) (buffer : List ℕ) (m : Meaning) (given : Given)
-    → Answers d l buffer m given → numbers given ≡ numbersDue d l buffer m given
-given-due d l buffer (frame h payload earlier) given is = ap numbers is
-given-due d l buffer (reading verb) given is = ap numbers is
-given-due d l buffer clearing given is = says-nothing given (is .1)
-given-due d l buffer other given is = says-nothing given is
+runs-bytes : (sending : ℕ) (buffer : Message) (r : Running) → Runs sending buffer r → buffered buffer r ≡ runningBytes r
+runs-bytes sending buffer none is = refl
+runs-bytes sending buffer (first m) is = ap (λ (m : Message). m .bytes) (is .1)
+runs-bytes sending buffer (alone m) is = ap (λ (m : Message). m .bytes) (is .1)
 
-runs-bytes : (d : Device) (r : Running) → Runs d r → runs d r ≡ runningBytes r
-runs-bytes d none is = refl
-runs-bytes d (first m) is = ap (λ (m : Message). m .bytes) (is .1)
-runs-bytes d (alone m) is = ap (λ (m : Message). m .bytes) (is .1)
+first-shown : (fs : List Frame) → Each Shown fs
+    → map (byte (message (getD fs 0 blank) .bytes)) (4 ∷ 5 ∷ 6 ∷ 7 ∷ []) ≡ identifierRead ((getD fs 0 blank) .header)
+unfolding received idAsRead idBits
+first-shown [] all = refl
+first-shown (f ∷ fs) all = all .0 .identifier
+
+-- what a refusal leaves has the same queue
+untouched-count : (d : Device) (i : Input) (s : Step) → Untouched d i s → s .device .rx .count ≡ d .rx .count
+untouched-count d (spi bytes buffer) s is = ap (λ (s : Step). s .device .rx .count) is
+untouched-count d (wire e payload) s is = ap (λ (s : Step). s .device .rx .count) is
+
+left-count : (t : Bool) (d : Device) (i : Input) (s : Step) → eqb (number (s .given)) 0 ≡ t → ((number (s .given) ≡ 0 → ⊥) → Untouched d i s)
+    → pick t (d .rx .count) (s .device .rx .count) ≡ d .rx .count
+left-count true d i s is kept = refl
+left-count false d i s is kept = untouched-count d i s (kept (eqb-false (number (s .given)) 0 is))
 
 equal : (c : Case) → Promise c → sides c .0 ≡ sides c .1
-equal (lost w is) kept = ap allBytes (kept is)
-equal (undue w is i) kept =
-    given-due (hidden (run w fresh is)) (ledger w is) (buffered i) (means (hidden (run w fresh is)) i) (w (run w fresh is) i .given) (kept is i)
-equal (unsent w is) kept =
-    rw (kept is .0) (ap (λ l. allBytes (outbox w is .queue) ++ l) (runs-bytes (run w fresh is) (outbox w is .running) (kept is .1)))
-equal (miscounted w is) kept = ap counts (kept is)
-equal (mistimed w is) kept = ap (λ n. n ∷ []) (kept is)
-equal (unseen w is) kept = ap (λ n. n ∷ []) (kept is)
-equal (unraised w is) kept = ap (λ n. n ∷ []) (kept is)
-equal (misread w is r at reads fits room) kept = ap numbers (kept is (r .command ∷ []) (0 ∷ []) r at reads fits room)
-equal (misjudged w d i) kept = ap (λ n. n ∷ []) (kept d i)
-equal (refusing w d i) kept = ap (λ n. n ∷ []) kept
-equal (changing w d i) kept = ap (λ n. n ∷ []) kept
+equal (lost w is) holds = ap allBytes (holds is)
+equal (undue w is i) holds = given-due (recorded w is) i (w (run w fresh is) i .given) (holds is i)
+equal (unsettled w is) holds = ap settingBytes (holds is)
+equal (miscounted w is) holds = ap counts (holds is)
+equal (mistimed w is) holds = ap (λ n. n ∷ []) (holds is)
+equal (unseen w is) holds = ap (λ n. n ∷ []) (holds is)
+equal (unraised w is) holds = ap (λ n. n ∷ []) (holds is)
+equal (unsent w is) holds =
+    rw (holds is .0)
+    (ap (λ l. allBytes (map kept (recorded w is .outbox .queue)) ++ l)
+    (runs-bytes (run w fresh is .sending) (run w fresh is .buffer) (recorded w is .outbox .running) (holds is .1)))
+equal (unlike w is) holds = ap (λ (r : Records). length (r .ledger .accepted) ∷ []) (holds is)
+equal (misshown look is) holds = ap levels (holds is)
+equal (misread w is) holds = first-shown (recorded w is .ledger .accepted) (holds is .1)
+equal (misjudged w d i) holds = ap (λ n. n ∷ []) (holds d i)
+equal (changing w d i) holds = ap (λ n. n ∷ []) (left-count (eqb (numberGiven w d i) 0) d i (w d i) refl (holds d i))
 
 -- ---- and in no case are they
 
@@ -80,9 +97,3 @@ each-out (c ∷ cs) e = (out c (cc), each-out cs (cc))
 
 pub ruled-out : Each (λ c. Promise c → ⊥) cases
 ruled-out = each-out cases differ
-
-pub short-takes : Refused shortTakes → ⊥
-unfolding rows lengthFits
-short-takes kept =
-    let last = ruled-out .1 .1 .1 .1 .1 .1 .1 .1 .1 .1 .1 .1 .1 .1 .1 .1 .1 .1 .1 .1 .1 .1 in
-    last .1 .0 (ap (λ (s : Step). s .device .rx .count) (kept (run shipped fresh two) tooShort (last .0)))

@@ -5,9 +5,9 @@ use mathlib.Core.List.{List, [], _∷_, _++_, map}
 use Prim.Native.Nat.{ℕ, _%_}
 use borrow.Author.Tests.{eq-eqb}
 use lib.Dec.{eqb}
-use lib.ListN.{length, replicate}
-use Rattle.base.specs.Pick.{pick}
-use Rattle.base.specs.Put.{putOf}
+use lib.ListN.{length, replicate, getD}
+use Rattle.base.specs.Bit.{byte}
+use Rattle.base.specs.Pick.{pick, flag}
 use Rattle.counters.specs.declared.Counters.{Counters}
 use Rattle.counters.specs.Rules
 use Rattle.fifo.specs.declared.Message.{Message}
@@ -18,34 +18,48 @@ use Rattle.frame.specs.Received
 use Rattle.frame.specs.Tables
 use Rattle.filter.specs.Lowest
 use Rattle.filter.specs.Match
+use Rattle.levels.specs.Levels
 use Rattle.sent.specs.Sent
-use Rattle.chip.specs.declared.Device.{Device}
 use Rattle.chip.specs.State.{fresh}
 use Rattle.chip.specs.Proper
 use Rattle.chip.specs.State
+use Rattle.drawn.specs.Drawn
 use Rattle.flags.specs.Flags
 use Rattle.flags.specs.Reset
 use Rattle.transmit.specs.Transmit
 use Rattle.modes.specs.Modes
 use Rattle.receive.specs.Receive
-use Rattle.judged.specs.declared.Answer.the-variants.{Arrived}
 use Rattle.judged.specs.Judged
 use Rattle.changed.specs.Changed
+use Rattle.bus.specs.declared.types.Pins.{Pins}
 use Rattle.bus.specs.Event
+use Rattle.bus.specs.Pins
 use Rattle.commands.specs.Table
 use Rattle.refused.specs.Refused
 use Rattle.shown.specs.Shown
 use Rattle.done.specs.Done
 use Rattle.host.specs.Transfer
-use Rattle.promise.specs.Sequence.{spi, Given, replied, answered, number, run}
-use Rattle.promise.specs.Numbers.{row, firstSaying, valuesGiven, numberGiven}
-use Rattle.promise.specs.Meaning.{Meaning, frame, reading, clearing, other, means}
-use Rattle.promise.specs.Ledger.{Ledger, left, oldest, fields, due, hidden, buffered, ledger}
-use Rattle.promise.specs.Outbox.{Running, none, first, alone, outbox}
-use Rattle.promise.specs.Readings.{readout}
-use Rattle.promise.specs.Sums.{sum, ticks, seen, kindBits}
-use Rattle.promise.specs.Interrupts.{flags, together}
-use Rattle.promise.proofs.Cases.{Case, lost, undue, unsent, miscounted, mistimed, unseen, unraised, misread, misjudged, refusing, changing, cases}
+use Rattle.promise.specs.Sequence.{Input, spi, wire, Given, replied, answered, shipped, number, values, run, conversation}
+use Rattle.promise.specs.Commands
+use Rattle.promise.specs.Filters
+use Rattle.promise.specs.Ranges
+use Rattle.promise.specs.Flags.{together}
+use Rattle.promise.specs.Frames.{blank, message, identifierRead}
+use Rattle.promise.specs.Numbers
+use Rattle.promise.specs.Numbers.{situation, numberDue, numberGiven}
+use Rattle.promise.specs.Outbox.{Running, none, first, alone}
+use Rattle.promise.specs.Written.{kept}
+use Rattle.promise.specs.Recorded.{situationOf, filled, recorded}
+use Rattle.promise.specs.Noted
+use Rattle.promise.specs.Arrivals.{valuesDue}
+use Rattle.promise.specs.Noted.{recordsBy, byTheAnswers}
+use Rattle.promise.specs.Records.{Records}
+use Rattle.promise.specs.Registers
+use Rattle.promise.specs.Registers.{shown, pinsShown}
+use Rattle.promise.specs.Settings
+use Rattle.promise.specs.Settings.{Settings, settingsOf}
+use Rattle.promise.proofs.Cases.{Case, lost, undue, unsettled, miscounted, mistimed, unseen, unraised, unsent, unlike, misshown, misread}
+use Rattle.promise.proofs.Cases.{misjudged, changing, cases}
 
 -- ---- lists of numbers that differ
 
@@ -68,55 +82,72 @@ allBytes (m ∷ ms) = m .bytes ++ allBytes ms
 abbrev pub counts : Counters → List ℕ
 counts c = c .rec ∷ c .tec ∷ c .groups ∷ []
 
-abbrev pub numbers : Given → List ℕ
-numbers (replied n buffer) = n ∷ buffer
-numbers (answered a) = number (answered a) ∷ valuesGiven (answered a)
+-- CTRL0, CTRL1, the mode that acts, and the patterns
+abbrev pub joined : List (List ℕ) → List ℕ
+joined [] = []
+joined (p ∷ ps) = p ++ joined ps
 
--- what is given where nothing is to be said
-abbrev pub silent : Given → List ℕ
-silent (replied n buffer) = buffer
-silent (answered a) = []
+abbrev pub settingBytes : Settings → List ℕ
+settingBytes s = s .ctrl0 ∷ s .ctrl1 ∷ s .acting ∷ joined (s .filters)
 
--- what is due, and the number given where none is
-abbrev pub numbersDue : Device → Ledger → List ℕ → Meaning → Given → List ℕ
-numbersDue d l buffer (frame h payload earlier) given = numbers (answered (Arrived (due d l h payload earlier)))
-numbersDue d l buffer (reading verb) given = numbers (pick (eqb (left l) 0) (replied 7 buffer) (replied 0 (putOf (fields verb (oldest l)) buffer)))
-numbersDue d l buffer clearing given = number given ∷ silent given
-numbersDue d l buffer other given = number given ∷ silent given
+abbrev pub levels : Pins → List ℕ
+levels p = flag (p .int) ∷ flag (p .stat) ∷ flag (p .gp1) ∷ flag (p .gp2) ∷ []
+
+-- what a transfer leaves in the lent buffer, and what an event says
+abbrev pub left : Given → List ℕ
+left (replied n buffer) = buffer
+left (answered a) = []
+
+abbrev pub numbers : Input → Given → List ℕ
+numbers (spi bytes buffer) given = number given ∷ left given
+numbers (wire e payload) given = number given ∷ values given
+
+abbrev pub numbersDue : Records → Input → List ℕ
+numbersDue r (spi bytes buffer) =
+    let n = numberDue (situationOf r) (spi bytes buffer) in
+    n ∷ pick (eqb n 0) (filled (shown r (byte bytes 1)) buffer) buffer
+numbersDue r (wire e payload) =
+    let n = numberDue (situationOf r) (wire e payload) in
+    n ∷ pick (eqb n 0) (valuesDue r e payload) []
 
 -- the transmit buffer while a message runs, and that message
-abbrev pub runs : Device → Running → List ℕ
-runs d none = []
-runs d (first m) = d .buffer .bytes
-runs d (alone m) = d .buffer .bytes
+abbrev pub buffered : Message → Running → List ℕ
+buffered buffer none = []
+buffered buffer (first m) = buffer .bytes
+buffered buffer (alone m) = buffer .bytes
 
 abbrev pub runningBytes : Running → List ℕ
 runningBytes none = []
-runningBytes (first m) = m .bytes
-runningBytes (alone m) = m .bytes
+runningBytes (first m) = kept m .bytes
+runningBytes (alone m) = kept m .bytes
 
 -- what the device comes to, and what its promise says
 abbrev pub sides : Case → List ℕ × List ℕ
-sides (lost w is) = (allBytes (ledger w is .taken ++ waiting (run w fresh is .rx)), allBytes (ledger w is .accepted))
-sides (undue w is i) = (
-  numbers (w (run w fresh is) i .given),
-  numbersDue (hidden (run w fresh is)) (ledger w is) (buffered i) (means (hidden (run w fresh is)) i) (w (run w fresh is) i .given),
+sides (lost w is) = (
+  allBytes (map message (recorded w is .ledger .taken) ++ waiting (run w fresh is .rx)),
+  allBytes (map message (recorded w is .ledger .accepted)),
 )
+sides (undue w is i) = (numbers i (w (run w fresh is) i .given), numbersDue (recorded w is) i)
+sides (unsettled w is) = (settingBytes (settingsOf (run w fresh is)), settingBytes (recorded w is .settings))
+sides (miscounted w is) = (counts (run w fresh is .counters), counts (recorded w is .counters))
+sides (mistimed w is) = (run w fresh is .time ∷ [], recorded w is .ticks % 65536 ∷ [])
+sides (unseen w is) = (run w fresh is .regs .errs ∷ [], together (recorded w is .kinds) ∷ [])
+sides (unraised w is) = (run w fresh is .regs .intf ∷ [], together (recorded w is .flags) ∷ [])
 sides (unsent w is) = (
-  allBytes (waiting (run w fresh is .tx)) ++ runs (run w fresh is) (outbox w is .running),
-  allBytes (outbox w is .queue) ++ runningBytes (outbox w is .running),
+  allBytes (waiting (run w fresh is .tx)) ++ buffered (run w fresh is .buffer) (recorded w is .outbox .running),
+  allBytes (map kept (recorded w is .outbox .queue)) ++ runningBytes (recorded w is .outbox .running),
 )
-sides (miscounted w is) = (counts (run w fresh is .counters), counts (sum w is))
-sides (mistimed w is) = (run w fresh is .time ∷ [], ticks w is % 65536 ∷ [])
-sides (unseen w is) = (run w fresh is .regs .errs ∷ [], kindBits (seen w is) ∷ [])
-sides (unraised w is) = (run w fresh is .regs .intf ∷ [], together 0 (flags w is) ∷ [])
-sides (misread w is r at reads fits room) = (
-  numbers (w (run w fresh is) (spi (r .command ∷ []) (0 ∷ [])) .given),
-  0 ∷ putOf (readout w is (r .verb)) (0 ∷ []),
+sides (unlike w is) = (
+  length (recordsBy byTheAnswers (conversation w fresh is) .ledger .accepted) ∷ [],
+  length (recorded w is .ledger .accepted) ∷ [],
 )
-sides (misjudged w d i) = (numberGiven w d i ∷ [], firstSaying (row d i) ∷ [])
-sides (refusing w d i) = (numberGiven w d i ∷ [], 0 ∷ [])
-sides (changing w d i) = (w d i .device .rx .count ∷ [], d .rx .count ∷ [])
+sides (misshown look is) = (levels (look (run shipped fresh is)), levels (pinsShown (recorded shipped is)))
+sides (misread w is) = (
+  map (byte (message (getD (recorded w is .ledger .accepted) 0 blank) .bytes)) (4 ∷ 5 ∷ 6 ∷ 7 ∷ []),
+  identifierRead ((getD (recorded w is .ledger .accepted) 0 blank) .header),
+)
+sides (misjudged w d i) = (numberGiven w d i ∷ [], numberDue (situation d) i ∷ [])
+sides (changing w d i) = (pick (eqb (numberGiven w d i) 0) (d .rx .count) (w d i .device .rx .count) ∷ [], d .rx .count ∷ [])
 
 pub differ : map (λ c. alike (sides c .0) (sides c .1)) cases ≡ replicate (length cases) false
 unfolding Transfer.transfer Transfer.replyAfter Refused.lengthFits Refused.setsUp Refused.outsideSetUp Refused.findsFull Refused.readsMessage
@@ -127,7 +158,7 @@ unfolding Transfer.transfer Transfer.replyAfter Refused.lengthFits Refused.setsU
     Done.does Modes.changed Modes.writeCtrl0 Modes.canSleep Modes.busQuiet Modes.busActivity Flags.raised Flags.busError Reset.reset Receive.hit
     Receive.room Receive.passed Receive.answered Receive.filtersAndRoom Receive.isQueued Receive.queuedFlag Receive.filterFlag Receive.queueAfter
     Receive.arrived Lowest.lowest Lowest.filhit Match.matches Length.dataLength Length.dataBytes Length.possible Length.dataFits Length.dataOf
-    Received.received Received.headerIn Tables.idBits Tables.idToSend Tables.idAsRead Tables.compared Judged.quietMode Judged.noErrors Judged.runs
+    Ranges.inRange Filters.filhitOf Received.received Received.headerIn Tables.idBits Tables.idToSend Tables.idAsRead Tables.compared Judged.quietMode Judged.noErrors Judged.runs
     Judged.impossibleFrame Judged.impossible Judged.takesNoFrames Judged.unacknowledged Judged.reason Judged.echo Judged.said Changed.errBit
     Changed.countedFrame Changed.heard Changed.reachesTemporary Changed.frameAfter Changed.countedReceiveError Changed.receiveErrorMet Changed.dominantMet
     Changed.countedTransmitError Changed.transmitErrorMet Changed.echoed Changed.recessiveMet Changed.ticked Changed.pinSet Changed.arrival Changed.after
@@ -135,4 +166,7 @@ unfolding Transfer.transfer Transfer.replyAfter Refused.lengthFits Refused.setsU
     Rules.completed Rules.elevenRecessive Rules.testRec Rules.testTec Transmit.sends Transmit.canBegin Transmit.withoutTx1m Transmit.ctrl1Begun
     Transmit.begun Transmit.stopped Transmit.aborted Transmit.leftAlone Transmit.cleared Transmit.stamped Transmit.fifoAfter
     Transmit.countedCompletion Transmit.sent Shown.cut Shown.register Shown.shows
+    Drawn.int Drawn.stat Drawn.gp Drawn.statf Levels.errw Levels.errp Levels.rxerrp Levels.txerrp Levels.groupsShown Levels.tecShown Pins.pins
+    Commands.isCommand Commands.lengthsOf Commands.setsUp Commands.rightLength Numbers.findsNone Numbers.cannotBe Numbers.numberDue
+    Noted.happened Noted.commanded Registers.intf Registers.err Registers.statf Registers.messtat Registers.shown Settings.modeNamed
 differ = refl

@@ -1,7 +1,7 @@
 -- A step by its cases, and what holds at each step holds along a sequence. Assumes nothing.
 use mathlib.Core.Path.{_≡_, refl, _∙_, ap}
 use mathlib.Core.Bool.{Bool, true, false}
-use mathlib.Core.List.{List, [], _∷_, _++_}
+use mathlib.Core.List.{List, [], _∷_, _++_, foldl}
 use Prim.Native.Nat.{ℕ}
 use lib.Dec.{eqb}
 use lib.ListN.{length, take}
@@ -26,24 +26,25 @@ use Rattle.refused.proofs.Accepted.{accepted-found}
 use Rattle.shown.specs.Shown.{shows}
 use Rattle.done.specs.Done.{does}
 use Rattle.host.specs.Transfer.{transfer, replyAfter, reply, outcome as hostOutcome}
-use Rattle.promise.specs.Sequence.{Input, spi, wire, replied, answered, Step, shipped as step, number, run, along}
+use Rattle.promise.specs.Sequence.{Input, spi, wire, Given, replied, answered, Step, shipped as step, number, run, conversation}
 
 -- what every step keeps holds after every sequence
-pub keeps : {A : Type 0} (note : Device → A → Input → A) (R : Device → A → Type 0)
-    → ((d : Device) (a : A) (i : Input) → R d a → R (step d i .device) (note d a i))
-    → (d : Device) (a : A) (is : List Input) → R d a → R (run step d is) (along step note d a is)
+pub keeps : {A : Type 0} (note : A → Input → Given → A) (R : Device → A → Type 0)
+    → ((d : Device) (a : A) (i : Input) → R d a → R (step d i .device) (note a i (step d i .given)))
+    → (d : Device) (a : A) (is : List Input) → R d a → R (run step d is) (foldl (λ a x. note a (x .0) (x .1)) a (conversation step d is))
 keeps note R on d a [] h = h
-keeps note R on d a (i ∷ is) h = keeps note R on (step d i .device) (note d a i) is (on d a i h)
+keeps note R on d a (i ∷ is) h = keeps note R on (step d i .device) (note a i (step d i .given)) is (on d a i h)
 
 -- a sequence with one input more
 pub run-more : (d : Device) (is : List Input) (i : Input) → run step d (is ++ (i ∷ [])) ≡ step (run step d is) i .device
 run-more d [] i = refl
 run-more d (j ∷ is) i = run-more (step d j .device) is i
 
-pub along-more : {A : Type 0} (note : Device → A → Input → A) (d : Device) (a : A) (is : List Input) (i : Input)
-    → along step note d a (is ++ (i ∷ [])) ≡ note (run step d is) (along step note d a is) i
-along-more note d a [] i = refl
-along-more note d a (j ∷ is) i = along-more note (step d j .device) (note d a j) is i
+pub noted-more : {A : Type 0} (note : A → Input → Given → A) (d : Device) (a : A) (is : List Input) (i : Input)
+    → foldl (λ a x. note a (x .0) (x .1)) a (conversation step d (is ++ (i ∷ [])))
+    ≡ note (foldl (λ a x. note a (x .0) (x .1)) a (conversation step d is)) i (step (run step d is) i .given)
+noted-more note d a [] i = refl
+noted-more note d a (j ∷ is) i = noted-more note (step d j .device) (note a j (step d j .given)) is i
 
 -- ---- a transfer is refused, or done
 

@@ -1,72 +1,121 @@
 -- Demand 1: every input in every device is answered, by 01's table of numbers (01, Numbers given back).
 use mathlib.Core.Path.{_≡_}
 use mathlib.Core.Bool.{Bool, true, false, not, _&&_, _||_}
-use mathlib.Core.List.{List, [], _∷_}
+use mathlib.Core.List.{List, [], _∷_, _++_}
 use mathlib.Core.Logic.{_↔_}
 use Prim.Native.Nat.{ℕ, zero, suc, _<_, _≤_}
-use lib.Dec.{eqb, ltb}
+use lib.Dec.{eqb, leb, ltb}
 use lib.ListN.{length}
 use Rattle.base.specs.Bit.{byte}
 use Rattle.base.specs.Pick.{pick, among}
 use Rattle.chip.specs.declared.Device.{Device}
-use Rattle.chip.specs.Proper.{proper}
-use Rattle.chip.specs.State.{fresh}
+use Rattle.chip.specs.State.{fresh, idle}
+use Rattle.events.specs.declared.Event.{Event}
+use Rattle.events.specs.declared.Event.the-variants.{GoodFrame, ReceiveError, DominantBit, TransmitError, Begun, Completed}
+use Rattle.events.specs.declared.Event.the-variants.{ArbitrationLost, ElevenRecessive, BusQuiet, BusActivity, Ticks, TxenPin, MrPin}
+use Rattle.events.specs.declared.Event.the-variants.{Unknown}
 use Rattle.judged.specs.declared.Answer.the-variants.{Refused as RefusedEvent}
-use Rattle.judged.specs.Judged.{impossible}
-use Rattle.bus.specs.Event.{valuesOf}
-use Rattle.commands.specs.declared.Found.{Found}
-use Rattle.commands.specs.declared.Found.the-variants.{At, Nothing}
-use Rattle.commands.specs.declared.Row.{Row}
-use Rattle.commands.specs.Table.{rows, lookup}
-use Rattle.refused.specs.Refused.{lengthFits, outsideSetUp, findsFull, findsNone}
-use Rattle.promise.specs.Sequence.{Input, spi, wire, Given, replied, answered, Step, Machine, number, run}
+use Rattle.promise.specs.Sequence.{Input, spi, wire, replied, answered, Step, Machine, number, run}
+use Rattle.promise.specs.Commands.{messageReads, setsUp, sameFor, isCommand, lengthsOf, rightLength}
+use Rattle.promise.specs.Frames.{canArrive}
+use Rattle.promise.specs.Ranges.{inRange}
+use Rattle.promise.specs.Settings.{normal, loopback, sleep, initialization, enables}
 
--- whether a search found a command's row, and the row has a property
-abbrev pub found : (Row → Bool) → Found → Bool
-found rule Nothing = false
-found rule (At r) = rule r
+-- ---- what the table asks about a device
 
--- whether the transfer's command is in the table, and has a property
-abbrev pub command : List ℕ → (Row → Bool) → Bool
-command bytes rule = found rule (lookup rows (byte bytes 1))
+pub record Situation : Type 0 where
+  -- every count, place and field is in its range
+  pub inRange : Bool
+  pub acting : ℕ
+  pub busoff : Bool
+  -- by TXEN, TX1M or the pin
+  pub enabled : Bool
+  pub runs : Bool
+  -- messages in the transmit FIFO, messages in the receive FIFO, entries in the history
+  pub toSend : ℕ
+  pub waiting : ℕ
+  pub entries : ℕ
 
-abbrev pub noBytes : List ℕ → Bool
-noBytes bytes = eqb (length bytes) 0
+abbrev pub situation : Device → Situation
+situation d = record {
+  inRange = inRange d;
+  acting = d .acting;
+  busoff = d .counters .busoff;
+  enabled = enables (d .regs .ctrl1) (d .txenpin);
+  runs = not (eqb (d .sending) idle);
+  toSend = d .tx .count;
+  waiting = d .rx .count;
+  entries = d .history .count;
+}
+
+-- ---- 8
+
+-- "an error or dominant-bit event in initialization, sleep or bus off"
+abbrev pub noErrors : Situation → Bool
+noErrors s = (eqb (s .acting) initialization || eqb (s .acting) sleep) || s .busoff
+
+-- "a begin while one runs, with nothing to send or no enable or in a mode that can't send or in bus off"
+abbrev pub canBegin : Situation → Bool
+canBegin s =
+    not (s .runs) && (not (eqb (s .toSend) 0) && (s .enabled && ((eqb (s .acting) normal || eqb (s .acting) loopback) && not (s .busoff))))
+
+-- "an unknown kind", fields of a frame that can't be, "a completion, transmit error or lost arbitration with nothing begun"
+unfoldable pub cannotBe : Situation → Event → Bool
+cannotBe s (GoodFrame h acknowledged count) = not (canArrive h count)
+cannotBe s (ReceiveError kind) = noErrors s
+cannotBe s DominantBit = noErrors s
+cannotBe s (TransmitError kind counted) = not (s .runs) || noErrors s
+cannotBe s Begun = not (canBegin s)
+cannotBe s Completed = not (s .runs)
+cannotBe s ArbitrationLost = not (s .runs)
+cannotBe s ElevenRecessive = false
+cannotBe s BusQuiet = false
+cannotBe s BusActivity = false
+cannotBe s (Ticks count) = false
+cannotBe s (TxenPin level) = false
+cannotBe s MrPin = false
+cannotBe s Unknown = true
+
+-- ---- the table
+
+abbrev pub isEmpty : List ℕ → Bool
+isEmpty bytes = eqb (length bytes) 0
+
+-- 7: "a receive FIFO or history read finds none"
+unfoldable pub findsNone : Situation → ℕ → Bool
+findsNone s c = among c (sameFor messageReads (eqb (s .waiting) 0) ++ (0xEE, eqb (s .entries) 0) ∷ []) false
 
 -- 01's rows, in its order: whether the row of number n says so
-abbrev pub row : Device → Input → ℕ → Bool
-row d (spi bytes buffer) n =
+abbrev pub row : Situation → Input → ℕ → Bool
+row s (spi bytes buffer) n =
+    let c = byte bytes 1 in
     among n
-    ((1, not (proper d)) ∷
-    (2, not (noBytes bytes) && not (command bytes (λ r. true))) ∷
-    (3, noBytes bytes || command bytes (λ r. not (lengthFits r bytes))) ∷
-    (4, command bytes (λ r. ltb (length buffer) (r .out))) ∷
-    (5, command bytes (λ r. outsideSetUp (d .acting) (r .verb))) ∷
-    (6, command bytes (λ r. findsFull (d .tx .count) (r .verb))) ∷
-    (7, command bytes (λ r. findsNone (d .rx .count) (d .history .count) (r .verb))) ∷
+    ((1, not (s .inRange)) ∷
+    (2, not (isEmpty bytes) && not (isCommand c)) ∷
+    (3, isEmpty bytes || not (rightLength bytes)) ∷
+    (4, ltb (length buffer) (lengthsOf c .out)) ∷
+    (5, not (eqb (s .acting) initialization) && setsUp c) ∷
+    (6, eqb c 0x12 && leb 8 (s .toSend)) ∷
+    (7, findsNone s c) ∷
     [])
     false
-row d (wire e payload) n = among n ((1, not (proper d)) ∷ (8, impossible d e) ∷ []) false
+row s (wire e payload) n = among n ((1, not (s .inRange)) ∷ (8, cannotBe s e) ∷ []) false
 
 -- of m numbers from k on, the lowest whose row says so; 0 if none does
 abbrev pub firstFrom : (ℕ → Bool) → ℕ → ℕ → ℕ
 firstFrom says k zero = 0
 firstFrom says k (suc m) = pick (says k) k (firstFrom says (suc k) m)
 
-abbrev pub firstSaying : (ℕ → Bool) → ℕ
-firstSaying says = firstFrom says 1 8
+-- "Checks run in rising order; the first that applies is given, and none otherwise."
+unfoldable pub numberDue : Situation → Input → ℕ
+numberDue s i = firstFrom (row s i) 1 8
 
--- what an event says beside its number
-abbrev pub valuesGiven : Given → List ℕ
-valuesGiven (replied n buffer) = []
-valuesGiven (answered a) = valuesOf a
+-- ---- the promises
 
 -- what a refusal leaves: the device as it came, the lent buffer as it came, and nothing given but the number
 abbrev pub Untouched : Device → Input → Step → Type 0
 Untouched d (spi bytes buffer) s = s ≡ record { device = d; given = replied (number (s .given)) buffer }
 Untouched d (wire e payload) s = s ≡ record { device = d; given = answered (RefusedEvent (number (s .given))) }
-
--- ---- the promises
 
 module _ (step : Machine) where
   abbrev pub numberGiven : Device → Input → ℕ
@@ -76,14 +125,14 @@ module _ (step : Machine) where
   abbrev pub Answered : Type 0
   Answered = (d : Device) (i : Input) → numberGiven d i ≤ 8
 
-  -- "Checks run in rising order; the first that applies is given, and none otherwise."
+  -- The number is the lowest whose row says so, and 0 if none does.
   abbrev pub First : Type 0
-  First = (d : Device) (i : Input) → numberGiven d i ≡ firstSaying (row d i)
+  First = (d : Device) (i : Input) → numberGiven d i ≡ numberDue (situation d) i
 
   -- Each number but 0 is given exactly when its row says so and no lower one does.
   abbrev pub Exactly : Type 0
   Exactly = (d : Device) (i : Input) (n : ℕ) → 0 < n → n ≤ 8
-      → (numberGiven d i ≡ n) ↔ ((row d i n ≡ true) × ((m : ℕ) → 0 < m → m < n → row d i m ≡ false))
+      → (numberGiven d i ≡ n) ↔ ((row (situation d) i n ≡ true) × ((m : ℕ) → 0 < m → m < n → row (situation d) i m ≡ false))
 
   -- "A refusal leaves device and reply buffer unchanged."
   abbrev pub Refused : Type 0

@@ -1,12 +1,9 @@
--- What is promised of the device that is shipped: a line for each promise, which the file named above its group says in full. docs/PROMISES.md
--- tells them in plain words.
+-- What is promised of the device that is shipped: a line for each promise, which the file named above its group says in
+-- full. docs/PROMISES.md tells them in plain words.
+use Rattle.bus.specs.Pins.{pins}
 use Rattle.promise.specs.Sequence.{shipped}
 use Rattle.promise.specs.Numbers.{Answered, First, Exactly, Refused, NeverOne}
-use Rattle.promise.specs.Ledger.{Whole, Due, Same, AsArrived}
-use Rattle.promise.specs.Outbox.{Sent}
-use Rattle.promise.specs.Sums.{Counted, Timed, Seen}
-use Rattle.promise.specs.Interrupts.{Raised}
-use Rattle.promise.specs.Readings.{Read}
+use Rattle.promise.specs.Recorded.{Answers, Settled, Counted, Timed, Seen, Raised, Pinned, Whole, AsArrived, Sent, Same}
 use Rattle.promise.specs.Worked.{Worked}
 
 -- ---- demand 1 (Numbers)
@@ -26,7 +23,13 @@ ARefusalChangesNothing = Refused shipped
 abbrev pub OneIsNeverGiven : Type 0
 OneIsNeverGiven = NeverOne shipped
 
--- ---- demand 2, over sequences (Sums, Interrupts, Readings)
+-- ---- demands 2 and 3, over sequences (Recorded)
+
+abbrev pub EachAnswerIsDue : Type 0
+EachAnswerIsDue = Answers shipped
+
+abbrev pub SettingsAreThoseWritten : Type 0
+SettingsAreThoseWritten = Settled shipped
 
 abbrev pub CountersAreTheRulesSum : Type 0
 CountersAreTheRulesSum = Counted shipped
@@ -40,25 +43,20 @@ ErrIsTheKindsSeen = Seen shipped
 abbrev pub IntfIsTheFlagsRaised : Type 0
 IntfIsTheFlagsRaised = Raised shipped
 
-abbrev pub RegistersReadAsSummed : Type 0
-RegistersReadAsSummed = Read shipped
-
--- ---- demand 3 (Ledger, Outbox)
+abbrev pub PinsShowTheRecords : Type 0
+PinsShowTheRecords = Pinned shipped pins
 
 abbrev pub NoFrameIsLost : Type 0
 NoFrameIsLost = Whole shipped
 
-abbrev pub EachAnswerIsDue : Type 0
-EachAnswerIsDue = Due shipped
+abbrev pub FieldsStandAsTheyArrived : Type 0
+FieldsStandAsTheyArrived = AsArrived shipped
 
 abbrev pub OwnMessagesAreThoseWritten : Type 0
 OwnMessagesAreThoseWritten = Sent shipped
 
-abbrev pub TheAnswersKeepTheLedger : Type 0
-TheAnswersKeepTheLedger = Same shipped
-
-abbrev pub FieldsStandAsTheyArrived : Type 0
-FieldsStandAsTheyArrived = AsArrived shipped
+abbrev pub TheAnswersKeepTheRecords : Type 0
+TheAnswersKeepTheRecords = Same shipped
 
 -- ---- 01's worked numbers (Worked)
 

@@ -1,5 +1,5 @@
--- What happens to a device: transfers and events, one after the other. The promises are said of any machine that takes
--- them, and kept by the one that is shipped.
+-- What happens to a device: transfers and events, one after the other, and what is said meanwhile. The promises are said
+-- of any machine that takes them, and kept by the one that is shipped.
 use mathlib.Core.Bool.{Bool}
 use mathlib.Core.List.{List, [], _∷_}
 use Prim.Native.Nat.{ℕ}
@@ -8,7 +8,7 @@ use lib.ListN.{length}
 use Rattle.chip.specs.declared.Device.{Device}
 use Rattle.events.specs.declared.Event.{Event}
 use Rattle.judged.specs.declared.Answer.{Answer}
-use Rattle.bus.specs.Event.{event, numberOf}
+use Rattle.bus.specs.Event.{event, numberOf, valuesOf}
 use Rattle.host.specs.Transfer.{transfer, replyAfter}
 
 pub data Input : Type 0 where
@@ -46,6 +46,11 @@ abbrev pub number : Given → ℕ
 number (replied n buffer) = n
 number (answered a) = numberOf a
 
+-- and what an event says beside it: 0 for Queued, 1 to 5 for A1 to A5
+abbrev pub values : Given → List ℕ
+values (replied n buffer) = []
+values (answered a) = valuesOf a
+
 -- an input that was not refused
 abbrev pub done : Given → Bool
 done given = eqb (number given) 0
@@ -55,7 +60,10 @@ abbrev pub run : Machine → Device → List Input → Device
 run step d [] = d
 run step d (i ∷ is) = run step (step d i .device) is
 
--- What is written down along a sequence: at each input, from the device that meets it and from what was written before.
-abbrev pub along : {A : Type 0} → Machine → (Device → A → Input → A) → Device → A → List Input → A
-along step note d a [] = a
-along step note d a (i ∷ is) = along step note (step d i .device) (note d a i) is
+-- What was said in it: each input, and what was given for it. The records are kept from this, and so never see the device.
+abbrev pub Exchange : Type 0
+Exchange = Input × Given
+
+abbrev pub conversation : Machine → Device → List Input → List Exchange
+conversation step d [] = []
+conversation step d (i ∷ is) = (i, step d i .given) ∷ conversation step (step d i .device) is

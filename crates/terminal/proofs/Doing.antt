@@ -1,154 +1,208 @@
--- What the terminal's steps do to a device that listens: the equations of `host::transfer` and `bus::event`, computed. Assumes nothing.
-use mathlib.Core.Path.{_≡_, refl, ap}
-use mathlib.Core.Bool.{Bool, true, false, not}
-use mathlib.Core.List.{List, [], _∷_}
-use Prim.Native.Nat.{ℕ, _+_, _*_, _/_, _%_, _<_, _≤_}
+-- What each of the terminal's steps does, by the promises: the records say what is given, and what they have then. Assumes nothing.
+use mathlib.Core.Path.{_≡_, refl, sym, _∙_, ap}
+use mathlib.Core.Bool.{false, not}
+use mathlib.Core.List.{List, [], _∷_, _++_}
+use Prim.Native.Nat.{ℕ, _+_, _*_, _/_, _%_, _≤_}
 use native.Mathlib.Omega.{arith}
-use borrow.Author.Tests.{eqb-false, ne-eqb, lt-leb}
-use lib.Bits.{bitOr}
-use lib.Dec.{eqb}
-use Rattle.base.specs.Bit.{isSet}
-use Rattle.base.specs.Pick.{pick, flag}
+use lib.Dec.{eqb, leb}
+use lib.ListN.{length, replicate, length-append}
+use Rattle.base.specs.Bit.{isSet, byte}
+use Rattle.base.specs.Pick.{flag}
 use Rattle.base.proofs.Booleans.{flag-le, flag-back}
-use Rattle.levels.specs.Levels.{errw, errp}
+use Rattle.counters.specs.declared.Counters.{Counters}
 use Rattle.chip.specs.declared.Device.{Device}
-use Rattle.chip.specs.Parts.{with-regs, with-intf}
-use Rattle.chip.specs.Proper.{registersInRange, sendingInRange, actingInRange, proper}
-use Rattle.chip.specs.State.{fresh, normal, modeOf}
-use Rattle.commands.specs.Table.{rows, readRow}
-use Rattle.commands.specs.Verbs.{readIntf, readStatf, readMessage}
-use Rattle.drawn.specs.Drawn.{share, statf, int}
-use Rattle.refused.specs.declared.Verdict.{Verdict}
-use Rattle.refused.specs.declared.Verdict.the-variants.{Accepted}
-use Rattle.refused.specs.Refused.{lengthFits, setsUp, outsideSetUp, readsMessage, findsFull, findsNone, refusal, rowJudged, verdict}
-use Rattle.fifo.specs.Queue.{empty, full, isEmpty, inRange, put, take as takeOff}
-use Rattle.frame.specs.Length.{dataLength, dataBytes, possible, dataFits}
-use Rattle.counters.specs.Rules.{goodFrame}
-use Rattle.flags.specs.Flags.{raised}
-use Rattle.transmit.specs.Transmit.{stopped}
-use Rattle.modes.specs.Modes.{changed, writeCtrl0}
-use Rattle.receive.specs.declared.Arrival.the-variants.{Queued}
-use Rattle.receive.specs.Receive.{hit, room, answered, filtersAndRoom, isQueued, queuedFlag, filterFlag, queueAfter, arrived}
-use Rattle.events.specs.declared.Event.the-variants.{GoodFrame}
-use Rattle.judged.specs.declared.Answer.{Answer}
-use Rattle.judged.specs.declared.Answer.the-variants.{Arrived}
-use Rattle.judged.specs.Judged.{impossible, impossibleFrame, quietMode, takesNoFrames, unacknowledged, reason, said}
-use Rattle.changed.specs.Changed.{countedFrame, heard, reachesTemporary, frameAfter, arrival}
-use Rattle.shown.specs.Shown.{register, shows}
-use Rattle.done.specs.Done.{registersAfter, registerChanged, messageTaken, does}
-use Rattle.host.specs.Transfer.{outcome, transfer, replyAfter}
-use Rattle.bus.specs.Event.{answer, event, outcome as busOutcome}
-use Rattle.terminal.specs.Terminal.{asked, reply, statusOf, switchedOn, scanner, brought, Listens, Wakes}
+use Rattle.chip.specs.State.{fresh, normal}
+use Rattle.host.specs.Transfer.{replyAfter}
+use Rattle.promise.specs.Sequence.{Input, spi, Given, replied, answered, shipped as step}
+use Rattle.promise.specs.Commands.{isCommand, lengthsOf, setsUp, rightLength}
+use Rattle.promise.specs.Flags.{together}
+use Rattle.promise.specs.Ledger.{left, oldest, takes}
+use Rattle.promise.specs.Numbers.{findsNone, numberDue}
+use Rattle.promise.specs.Recorded.{Due, situationOf, filled, recorded}
+use Rattle.promise.specs.Noted.{noted, byTheRules, commanded}
+use Rattle.promise.specs.Records.{Records, with-flags, with-ledger}
+use Rattle.promise.specs.Registers.{fields, from, statf, intf, shown}
+use Rattle.promise.specs.Settings.{Settings, settingsOf, filton}
+use Rattle.promise.proofs.Steps.{run-more}
+use Rattle.promise.proofs.Recorded.{settled, counted, raised, due, recorded-more, taken-and-left}
+use Rattle.terminal.specs.Terminal.{asked, reply, statusOf, Listens, Reached}
+
+-- the lent buffer, of what a transfer gave
+abbrev left-in : Given → List ℕ
+left-in (replied n buffer) = buffer
+left-in (answered a) = []
+
+-- one input more
+abbrev pub further : {d : Device} → Reached d → (i : Input) → Reached (step d i .device)
+further h i = record {
+  history = h .history ++ (i ∷ []);
+  is = ap (λ (e : Device). step e i .device) (h .is) ∙ sym (run-more fresh (h .history) i);
+}
+
+-- the records of the history that led to a device
+abbrev pub book : {d : Device} → Reached d → Records
+book h = recorded step (h .history)
+
+-- a device has what its records have, as far as the terminal asks
+pub record Has (d : Device) (r : Records) : Type 0 where
+  pub settings : settingsOf d ≡ r .settings
+  pub counters : d .counters ≡ r .counters
+  pub flags : d .regs .intf ≡ together (r .flags)
+  pub waits : length (r .ledger .taken) + d .rx .count ≡ length (r .ledger .accepted)
+
+pub has : {d : Device} (h : Reached d) → Has d (book h)
+has h = record {
+  settings = ap settingsOf (h .is) ∙ settled (h .history);
+  counters = ap (λ (d : Device). d .counters) (h .is) ∙ counted (h .history);
+  flags = ap (λ (d : Device). d .regs .intf) (h .is) ∙ raised (h .history);
+  waits = rw (h .is) (taken-and-left (h .history));
+}
+
+module _ {d : Device} (h : Reached d) where
+  -- what is given for an input, and the records after it
+  pub given-due : (i : Input) → Due (book h) i (step d i .given)
+  given-due i = rw (h .is) (due (h .history) i)
+
+  pub book-more : (i : Input) → book (further h i) ≡ noted byTheRules (book h) i (step d i .given)
+  book-more i = rw (h .is) (recorded-more (h .history) i)
+
+  pub has-more : (i : Input) (r : Records) → book (further h i) ≡ r → Has (step d i .device) r
+  has-more i r is = rw (← is) (has (further h i))
+
+  -- ---- a transfer that the records let pass
+
+  module _ (bytes buffer : List ℕ) (passes : numberDue (situationOf (book h)) (spi bytes buffer) ≡ 0) where
+    given-is : step d (spi bytes buffer) .given ≡ replied 0 (filled (shown (book h) (byte bytes 1)) buffer)
+    given-is = given-due (spi bytes buffer) ∙ rw passes
+
+    pub replies : replyAfter d bytes buffer ≡ filled (shown (book h) (byte bytes 1)) buffer
+    replies = ap left-in given-is
+
+    pub book-after : book (further h (spi bytes buffer)) ≡ commanded (book h) bytes
+    book-after = book-more (spi bytes buffer) ∙ ap (noted byTheRules (book h) (spi bytes buffer)) given-is
+
+-- ---- a device that listens
 
 -- RXFMTY is bit 1 of STATF
 bit-one : (a b c d e f g h : ℕ) → g ≤ 1 → h ≤ 1 → (a * 128 + b * 64 + c * 32 + d * 16 + e * 8 + f * 4 + g * 2 + h) / 2 % 2 ≡ g
 bit-one a b c d e f g h p q = omega arith
 
-pub empty-shown : (d : Device) → isSet 1 (statf d) ≡ isEmpty (d .rx)
+empty-shown : (r : Records) → isSet 1 (statf r) ≡ eqb (left (r .ledger)) 0
 unfolding statf
-empty-shown d =
-    flag-back (isEmpty (d .rx)) _
-    (bit-one (flag (isEmpty (d .tx))) (flag (full (d .tx))) (flag (full (d .history)))
-    (flag (errw (d .counters))) (flag (errp (d .counters))) (flag (d .counters .busoff)) (flag (isEmpty (d .rx))) (flag (full (d .rx)))
-    (flag-le (isEmpty (d .rx))) (flag-le (full (d .rx))))
+empty-shown r =
+    flag-back (eqb (left (r .ledger)) 0) _
+    (bit-one _ _ _ _ _ _ (flag (eqb (left (r .ledger)) 0)) (flag (leb 8 (left (r .ledger)))) (flag-le (eqb (left (r .ledger)) 0)) (flag-le (leb 8 (left (r .ledger)))))
 
-module _ (d : Device) (in-range : proper d ≡ true) (acts : d .acting ≡ normal) where
-  after : (bytes : List ℕ) (v : Verdict) → Device
-  after bytes v = outcome d bytes v .device
+module _ {d : Device} (h : Reached d) (listens : Listens d) where
+  abbrev r : Records
+  r = book h
 
-  -- reading INTF clears it
-  pub flags-read : asked d 0xDE 1 ≡ with-regs d (with-intf (d .regs) 0)
-  unfolding after transfer verdict rowJudged refusal lengthFits outsideSetUp setsUp findsFull readsMessage findsNone rows does registerChanged registersAfter
-  flags-read =
-      let accepted : verdict d (0xDE ∷ []) 1 ≡ Accepted (readRow 0xDE 1 readIntf) = rw (in-range, acts) in
-      ap (after (0xDE ∷ [])) accepted
+  pub acts : r .settings .acting ≡ normal
+  acts = ap (λ (s : Settings). s .acting) (sym (has h .settings)) ∙ listens .acts
 
-  -- reading STATF changes nothing
-  pub status-read : asked d 0xE2 1 ≡ d
-  unfolding after transfer verdict rowJudged refusal lengthFits outsideSetUp setsUp findsFull readsMessage findsNone rows does registerChanged registersAfter
-  status-read =
-      let accepted : verdict d (0xE2 ∷ []) 1 ≡ Accepted (readRow 0xE2 1 readStatf) = rw (in-range, acts) in
-      ap (after (0xE2 ∷ [])) accepted
+  pub on-now : r .counters .busoff ≡ false
+  on-now = ap (λ (c : Counters). c .busoff) (sym (has h .counters)) ∙ listens .on
 
-  pub status-shows : reply d 0xE2 1 ≡ statf d ∷ []
-  unfolding replyAfter verdict rowJudged refusal lengthFits outsideSetUp setsUp findsFull readsMessage findsNone rows shows register
-  status-shows = rw (in-range, acts)
+  pub unfiltered-now : filton (r .settings) ≡ false
+  unfiltered-now = ap filton (sym (has h .settings)) ∙ listens .unfiltered
 
-  pub status-is : statusOf d ≡ record { device = d; waits = not (eqb (d .rx .count) 0) }
-  status-is = rw (status-shows, status-read, empty-shown d)
+  pub left-now : left (r .ledger) ≡ d .rx .count
+  left-now = omega (arith, has h .waits)
 
-  pub message-read : eqb (d .rx .count) 0 ≡ false → asked d 0x48 14 ≡ messageTaken d
-  unfolding after transfer verdict rowJudged refusal lengthFits outsideSetUp setsUp findsFull readsMessage findsNone rows does
-  message-read some =
-      let accepted : verdict d (0x48 ∷ []) 14 ≡ Accepted (readRow 0x48 14 readMessage) = rw (in-range, acts, some) in
-      ap (after (0x48 ∷ [])) accepted
+  -- a step that leaves settings and bus off
+  module _ (i : Input) (after : Records) (is : book (further h i) ≡ after) (same : after .settings ≡ r .settings) (on : after .counters .busoff ≡ false) where
+    settings-same : settingsOf (step d i .device) ≡ settingsOf d
+    settings-same = has-more h i after is .settings ∙ same ∙ sym (has h .settings)
 
--- ---- the parts that the terminal counts on, after each step
+    pub listens-on : Listens (step d i .device)
+    listens-on = record {
+      acts = ap (λ (s : Settings). s .acting) settings-same ∙ listens .acts;
+      unfiltered = ap filton settings-same ∙ listens .unfiltered;
+      on = ap (λ (c : Counters). c .busoff) (has-more h i after is .counters) ∙ on;
+      enables = ap (λ (s : Settings). s .inte) settings-same ∙ listens .enables;
+    }
 
-pub flags-listen : (d : Device) → Listens d → Listens (with-regs d (with-intf (d .regs) 0))
-flags-listen d h = record { acts = h .acts; unfiltered = h .unfiltered; on = h .on; enables = h .enables }
+  -- ---- INTF is read
 
-pub taken-listens : (d : Device) → Listens d → Listens (messageTaken d)
-unfolding messageTaken
-taken-listens d h = record { acts = h .acts; unfiltered = h .unfiltered; on = h .on; enables = h .enables }
+  abbrev pub askFlags : Input
+  askFlags = spi (0xDE ∷ []) (0 ∷ [])
 
-pub taken-quiet : (d : Device) → messageTaken d .regs .intf ≡ d .regs .intf
-unfolding messageTaken
-taken-quiet d = refl
+  flags-pass : numberDue (situationOf r) askFlags ≡ 0
+  unfolding numberDue isCommand lengthsOf rightLength setsUp findsNone
+  flags-pass = rw acts
 
-pub taken-count : (d : Device) → eqb (d .rx .count) 0 ≡ false → messageTaken d .rx .count + 1 ≡ d .rx .count
-unfolding messageTaken takeOff
-taken-count d some = rw some (omega (arith, eqb-false (d .rx .count) 0 some))
+  pub flags-book : book (further h askFlags) ≡ with-flags r []
+  unfolding commanded
+  flags-book = book-after h (0xDE ∷ []) (0 ∷ []) flags-pass
 
--- RXTMP and RXFIFO, up already or not
-raised-again : (t : Bool) → bitOr (bitOr (bitOr (pick t 0 0xC0) 0x80) 0x40) 0 ≡ 0xC0
-raised-again true = refl
-raised-again false = refl
+  flags-has : Has (asked d 0xDE 1) (with-flags r [])
+  flags-has = has-more h askFlags (with-flags r []) flags-book
 
-by-count : (t : Bool) → share (pick t 0 0xC0) 0x40 ≡ not t
-by-count true = refl
-by-count false = refl
+  pub flags-listen : Listens (asked d 0xDE 1)
+  flags-listen = listens-on askFlags _ flags-book refl on-now
 
-module _ (d : Device) (in-range : proper d ≡ true) (listens : Listens d) (few : d .rx .count < 8) (scan : List ℕ) where
-  answer-is : answer d (GoodFrame scanner true 8) scan ≡ Arrived Queued
-  unfolding answer impossible impossibleFrame possible dataFits dataBytes dataLength said reason takesNoFrames quietMode unacknowledged filtersAndRoom answered room
-  answer-is = rw (in-range, listens .acts, listens .on, listens .unfiltered, lt-leb 8 (d .rx .count) few)
+  pub flags-quiet : asked d 0xDE 1 .regs .intf ≡ 0
+  flags-quiet = flags-has .flags
 
-  brought-is : brought d scan ≡ heard d scanner scan Queued
-  unfolding event arrival frameAfter reachesTemporary
-  brought-is = ap (λ (a : Answer). busOutcome d (GoodFrame scanner true 8) scan a .device) answer-is
+  pub flags-count : asked d 0xDE 1 .rx .count ≡ d .rx .count
+  flags-count = omega (arith, flags-has .waits, has h .waits)
 
-  heard-listens : Listens (heard d scanner scan Queued)
-  unfolding heard arrived raised countedFrame goodFrame
-  heard-listens = record {
-    acts = listens .acts;
-    unfiltered = listens .unfiltered;
-    on = rw (listens .acts) (listens .on);
-    enables = listens .enables;
-  }
+  -- ---- STATF is read
 
-  pub brought-listens : Listens (brought d scan)
-  brought-listens = rw brought-is heard-listens
+  abbrev pub askStatus : Input
+  askStatus = spi (0xE2 ∷ []) (0 ∷ [])
 
-  pub brought-count : brought d scan .rx .count ≡ d .rx .count + 1
-  unfolding heard arrived raised queueAfter isQueued put
-  brought-count = rw (brought-is, lt-leb 8 (d .rx .count) few)
+  status-pass : numberDue (situationOf r) askStatus ≡ 0
+  unfolding numberDue isCommand lengthsOf rightLength setsUp findsNone
+  status-pass = rw acts
 
-  brought-flags : Wakes d → brought d scan .regs .intf ≡ 0xC0
-  unfolding heard arrived raised queuedFlag isQueued hit filterFlag
-  brought-flags wakes = rw (brought-is, listens .unfiltered, wakes) (raised-again (eqb (d .rx .count) 0))
+  pub status-book : book (further h askStatus) ≡ r
+  unfolding commanded
+  status-book = book-after h (0xE2 ∷ []) (0 ∷ []) status-pass
 
-  pub brought-wakes : Wakes d → Wakes (brought d scan)
-  brought-wakes wakes = rw (brought-count, ne-eqb (d .rx .count + 1) 0 (λ none. omega arith)) (brought-flags wakes)
+  status-has : Has (asked d 0xE2 1) r
+  status-has = has-more h askStatus r status-book
 
--- INT is high exactly while messages wait that raised it
-pub int-is : (d : Device) → Listens d → Wakes d → int d ≡ not (eqb (d .rx .count) 0)
-unfolding int
-int-is d listens wakes = rw (listens .enables, wakes) (by-count (eqb (d .rx .count) 0))
+  pub status-listens : Listens (asked d 0xE2 1)
+  status-listens = listens-on askStatus _ status-book refl on-now
 
--- ---- the terminal is switched on: three transfers, computed
+  pub status-quiet : asked d 0xE2 1 .regs .intf ≡ d .regs .intf
+  status-quiet = status-has .flags ∙ sym (has h .flags)
 
-pub on-is : Listens switchedOn × Wakes switchedOn × (switchedOn .rx .count ≡ 0)
-unfolding transfer verdict rowJudged refusal lengthFits outsideSetUp setsUp findsFull readsMessage findsNone rows does registerChanged registersAfter
-    fresh modeOf proper registersInRange sendingInRange actingInRange empty inRange writeCtrl0 changed stopped raised
-on-is = (record { acts = refl; unfiltered = refl; on = refl; enables = refl }, refl, refl)
+  pub status-count : asked d 0xE2 1 .rx .count ≡ d .rx .count
+  status-count = omega (arith, status-has .waits, has h .waits)
+
+  -- RXFMTY says whether a message waits
+  pub status-told : statusOf d .waits ≡ not (eqb (d .rx .count) 0)
+  unfolding shown
+  status-told = rw (replies h (0xE2 ∷ []) (0 ∷ []) status-pass, empty-shown r, left-now)
+
+  -- ---- a message is read
+
+  module _ (some : eqb (d .rx .count) 0 ≡ false) where
+    abbrev pub askMessage : Input
+    askMessage = spi (0x48 ∷ []) (replicate 14 0)
+
+    message-pass : numberDue (situationOf r) askMessage ≡ 0
+    unfolding numberDue isCommand lengthsOf rightLength setsUp findsNone
+    message-pass = rw (acts, left-now, some)
+
+    pub message-book : book (further h askMessage) ≡ with-ledger r (takes (r .ledger))
+    unfolding commanded
+    message-book = book-after h (0x48 ∷ []) (replicate 14 0) message-pass
+
+    message-has : Has (asked d 0x48 14) (with-ledger r (takes (r .ledger)))
+    message-has = has-more h askMessage (with-ledger r (takes (r .ledger))) message-book
+
+    pub message-listens : Listens (asked d 0x48 14)
+    message-listens = listens-on askMessage _ message-book refl on-now
+
+    pub message-quiet : asked d 0x48 14 .regs .intf ≡ d .regs .intf
+    message-quiet = message-has .flags ∙ sym (has h .flags)
+
+    pub message-count : asked d 0x48 14 .rx .count + 1 ≡ d .rx .count
+    message-count = omega (arith, message-has .waits, has h .waits, length-append (r .ledger .taken) (oldest (r .ledger) ∷ []))
+
+    pub message-reply : reply d 0x48 14 ≡ fields (1 ∷ from 4 16) (oldest (r .ledger))
+    unfolding shown
+    message-reply = replies h (0x48 ∷ []) (replicate 14 0) message-pass

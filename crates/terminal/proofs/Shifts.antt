@@ -1,26 +1,26 @@
 -- A shift: what holds after each scan, and what it comes to. Assumes nothing.
 use mathlib.Core.Path.{_≡_, refl, sym, _∙_, ap}
 use mathlib.Core.Bool.{false}
-use mathlib.Core.List.{List, [], _∷_, _++_}
+use mathlib.Core.List.{List, _++_, map}
 use Prim.Native.Nat.{ℕ, _+_, _-_, _*_, _<_, _≤_}
 use native.Mathlib.Omega.{arith}
 use borrow.Author.Tests.{eqb-true, not-false}
 use lib.ListN.{length, take, drop, length-drop}
 use lib.Seq.{take-add, length-take-le}
 use Rattle.chip.specs.declared.Device.{Device}
-use Rattle.drawn.specs.Drawn.{int}
-use Rattle.promise.specs.Sequence.{spi}
-use Rattle.refused.specs.Refused.{lengthFits}
-use Rattle.commands.specs.Table.{rows}
+use Rattle.bus.specs.Pins.{pins}
+use Rattle.promise.specs.Frames.{message}
+use Rattle.promise.specs.Records.{Records}
 use Rattle.terminal.specs.declared.Turn.{Turn}
-use Rattle.terminal.specs.Terminal.{switchedOn, brought, Reached, Listens, Serves, Wakes, Served}
-use Rattle.terminal.proofs.Doing.{brought-listens, brought-count, brought-wakes, int-is, on-is}
-use Rattle.terminal.proofs.Serving.{in-range, bring-serves, all-printed}
+use Rattle.terminal.specs.Terminal.{switchedOn, brought, scans as scansIn, Reached, Listens, Serves, Wakes, Served}
+use Rattle.terminal.proofs.Coming.{scan-listens, scan-count, scan-wakes, int-is, on, on-book, on-count, on-listens, on-wakes}
+use Rattle.terminal.proofs.Serving.{bring-serves, all-printed}
 
 -- INT is low, so nothing waits
-pub asleep : (d : Device) → Listens d → Wakes d → int d ≡ false → (page : List ℕ) (at : ℕ) → Served d at page (record { device = d; used = at }) page
-asleep d listens wakes low page at =
-    let none : d .rx .count ≡ 0 = eqb-true (d .rx .count) 0 (not-false _ (sym (int-is d listens wakes) ∙ low)) in
+pub asleep : (d : Device) → Reached d → Listens d → Wakes d → pins d .int ≡ false → (page : List ℕ) (at : ℕ)
+    → Served d at page (record { device = d; used = at }) page
+asleep d reached listens wakes low page at =
+    let none : d .rx .count ≡ 0 = eqb-true (d .rx .count) 0 (not-false _ (sym (int-is reached listens wakes) ∙ low)) in
     record {
       serves = λ arrived s. s;
       used = omega (arith, none);
@@ -42,18 +42,17 @@ pub record Shifting (scans page₀ : List ℕ) (n most : ℕ) (page : List ℕ) 
   pub enough : n * 8 ≤ length scans
   pub fits : length scans ≤ length page₀
 
-pub on : (scans page : List ℕ) (n : ℕ) → n * 8 ≤ length scans → length scans ≤ length page → Shifting scans page n 0 page switchedOn 0 0
-unfolding lengthFits rows
-on scans page n enough fits = record {
+pub begun : (scans page : List ℕ) (n : ℕ) → n * 8 ≤ length scans → length scans ≤ length page → Shifting scans page n 0 page switchedOn 0 0
+begun scans page n enough fits = record {
   serves = record {
-    reached = record { history = spi (0x1C ∷ 0x40 ∷ []) [] ∷ spi (0x14 ∷ 0 ∷ []) [] ∷ spi (0xDE ∷ []) (0 ∷ []) ∷ []; is = refl };
-    accepted = refl;
-    taken = refl;
+    reached = on;
+    accepted = ap (λ (r : Records). scansIn (map message (r .ledger .accepted))) on-book;
+    taken = ap (λ (r : Records). scansIn (map message (r .ledger .taken))) on-book;
   };
-  listens = on-is .0;
-  wakes = on-is .1;
-  few = omega (arith, on-is .2);
-  printed = omega (arith, on-is .2);
+  listens = on-listens;
+  wakes = on-wakes;
+  few = omega (arith, on-count);
+  printed = omega (arith, on-count);
   size = refl;
   within = omega arith;
   enough = enough;
@@ -76,13 +75,13 @@ module _ (scans page₀ : List ℕ) (n most : ℕ) (page : List ℕ) (d : Device
 
     pub scanned : most < 8 → Shifting scans page₀ n (most + 1) page (brought d scan) used (i + 1)
     scanned room =
-        let reached = in-range (h .serves .reached) in
+        let reached = h .serves .reached in
         let few : d .rx .count < 8 = omega (arith, h .few) in
-        let one-more = brought-count d reached (h .listens) few scan in
+        let one-more = scan-count reached (h .listens) few scan in
         record {
           serves = rw (← come) (bring-serves (h .serves) (h .listens) few scan scan-eight);
-          listens = brought-listens d reached (h .listens) few scan;
-          wakes = brought-wakes d reached (h .listens) few scan (h .wakes);
+          listens = scan-listens reached (h .listens) few scan;
+          wakes = scan-wakes reached (h .listens) few scan (h .wakes);
           few = omega (arith, one-more, h .few);
           printed = omega (arith, one-more, h .printed);
           size = h .size;

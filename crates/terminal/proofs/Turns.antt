@@ -1,22 +1,21 @@
 -- The terminal's loop: what holds while it reads what waits. Assumes nothing.
 use mathlib.Core.Path.{_≡_, refl, sym, _∙_, ap}
 use mathlib.Core.Bool.{true, false, not}
-use mathlib.Core.List.{List, [], _∷_, _++_, append-assoc}
+use mathlib.Core.List.{List, _++_, append-assoc}
 use Prim.Native.Nat.{ℕ, _+_, _-_, _*_, _<_, _≤_}
 use native.Mathlib.Omega.{arith}
 use borrow.Author.Tests.{eqb-true, eqb-false, not-true, not-false}
 use borrow.Rule.Slice.PartMut.{putMid, same-len-mid}
 use lib.Dec.{eqb}
-use lib.ListN.{length, take, drop, replicate, length-append, length-drop}
+use lib.ListN.{length, take, drop, length-append, length-drop}
 use lib.Seq.{take-at, length-take-le}
 use Rattle.chip.specs.declared.Device.{Device}
-use Rattle.chip.specs.Parts.{with-regs, with-intf}
-use Rattle.done.specs.Done.{messageTaken}
-use Rattle.promise.specs.Sequence.{spi}
 use Rattle.terminal.specs.declared.Status.{Status}
 use Rattle.terminal.specs.Terminal.{asked, statusOf, scanRead, Reached, Listens, Serves, Served}
-use Rattle.terminal.proofs.Doing.{flags-read, status-is, message-read, flags-listen, taken-listens, taken-quiet, taken-count}
-use Rattle.terminal.proofs.Serving.{in-range, further, flags-serve, status-serve, read-serves}
+use Rattle.terminal.proofs.Doing.{further, askFlags, flags-listen, flags-quiet, flags-count}
+use Rattle.terminal.proofs.Doing.{askStatus, status-listens, status-quiet, status-count, status-told}
+use Rattle.terminal.proofs.Doing.{askMessage, message-listens, message-quiet, message-count}
+use Rattle.terminal.proofs.Serving.{flags-serve, status-serve, read-serves}
 
 -- from the status that was read first, with so much of the page used, to now
 pub record Serving (page₀ : List ℕ) (used₀ : ℕ) (s₀ : Status) (page : List ℕ) (used : ℕ) (s : Status) : Type 0 where
@@ -35,31 +34,26 @@ module _ (d : Device) (reached : Reached d) (listens : Listens d) (page : List �
   abbrev quieted : Device
   quieted = asked d 0xDE 1
 
-  is-quieted : asked d 0xDE 1 ≡ with-regs d (with-intf (d .regs) 0)
-  is-quieted = flags-read d (in-range reached) (listens .acts)
+  abbrev quietly : Reached (asked d 0xDE 1)
+  quietly = further reached (askFlags reached listens)
 
-  quieted-reached : Reached (asked d 0xDE 1)
-  quieted-reached = further reached (spi (0xDE ∷ []) (0 ∷ []))
+  quiet-listens : Listens (asked d 0xDE 1)
+  quiet-listens = flags-listen reached listens
 
-  quieted-listens : Listens (asked d 0xDE 1)
-  quieted-listens = rw is-quieted (flags-listen d listens)
-
-  first-status : statusOf quieted ≡ record { device = quieted; waits = not (eqb (quieted .rx .count) 0) }
-  first-status = status-is quieted (in-range quieted-reached) (quieted-listens .acts)
+  same-count : statusOf quieted .device .rx .count ≡ d .rx .count
+  same-count = status-count quietly quiet-listens ∙ flags-count reached listens
 
   pub begun : Serving page at (statusOf quieted) page at (statusOf quieted)
-  begun =
-      rw first-status
-      (record {
-        reached = quieted-reached;
-        listens = quieted-listens;
-        told = refl;
-        quiet = rw is-quieted;
-        room = refl;
-        fits = rw is-quieted fits;
-        size = refl;
-        serves = λ arrived s. s;
-      })
+  begun = record {
+    reached = further quietly (askStatus quietly quiet-listens);
+    listens = status-listens quietly quiet-listens;
+    told = status-told quietly quiet-listens ∙ rw (status-count quietly quiet-listens);
+    quiet = status-quiet quietly quiet-listens ∙ flags-quiet reached listens;
+    room = refl;
+    fits = rw same-count fits;
+    size = refl;
+    serves = λ arrived s. s;
+  }
 
   -- ---- and the last
 
@@ -67,11 +61,9 @@ module _ (d : Device) (reached : Reached d) (listens : Listens d) (page : List �
       → Served d at page (record { device = s .device; used = used }) after
   ended after used s h over =
       let none : s .device .rx .count ≡ 0 = eqb-true (s .device .rx .count) 0 (not-false _ (sym (h .told) ∙ over)) in
-      let same : statusOf quieted .device .rx .count ≡ d .rx .count =
-      ap (λ (t : Status). t .device .rx .count) first-status ∙ ap (λ (e : Device). e .rx .count) is-quieted in
       record {
-        serves = λ arrived serves. h .serves arrived (status-serve (flags-serve serves));
-        used = omega (arith, h .room);
+        serves = λ arrived serves. h .serves arrived (status-serve (flags-serve serves listens) quiet-listens);
+        used = omega (arith, h .room, same-count);
         size = h .size;
         listens = h .listens;
         none = none;
@@ -92,23 +84,17 @@ module _ (page₀ : List ℕ) (used₀ : ℕ) (s₀ : Status) (page : List ℕ) 
   pub enough : used + 8 ≤ length page
   enough = omega (arith, h .room, h .fits, h .size, eqb-false (s .device .rx .count) 0 some)
 
-  is-taken : asked (s .device) 0x48 14 ≡ messageTaken (s .device)
-  is-taken = message-read (s .device) (in-range (h .reached)) (h .listens .acts) some
+  abbrev reading : Reached (asked (s .device) 0x48 14)
+  reading = further (h .reached) (askMessage (h .reached) (h .listens) some)
 
-  next-reached : Reached (asked (s .device) 0x48 14)
-  next-reached = further (h .reached) (spi (0x48 ∷ []) (replicate 14 0))
+  reading-listens : Listens (asked (s .device) 0x48 14)
+  reading-listens = message-listens (h .reached) (h .listens) some
 
-  next-listens : Listens (asked (s .device) 0x48 14)
-  next-listens = rw is-taken (taken-listens (s .device) (h .listens))
-
-  one-less : next .rx .count + 1 ≡ s .device .rx .count
-  one-less = rw is-taken (taken-count (s .device) some)
-
-  next-status : statusOf next ≡ record { device = next; waits = not (eqb (next .rx .count) 0) }
-  next-status = status-is next (in-range next-reached) (next-listens .acts)
+  one-less : statusOf next .device .rx .count + 1 ≡ s .device .rx .count
+  one-less = rw (status-count reading reading-listens) (message-count (h .reached) (h .listens) some)
 
   pub fewer : statusOf next .device .rx .count < s .device .rx .count
-  fewer = omega (arith, one-less, ap (λ (t : Status). t .device .rx .count) next-status)
+  fewer = omega (arith, one-less)
 
   -- what stands on the page when a line is put behind it
   printed : (line : List ℕ) → length line ≡ 8 → take (used + 8) (putMid used (used + 8 - used) page line) ≡ take used page ++ line
@@ -122,15 +108,13 @@ module _ (page₀ : List ℕ) (used₀ : ℕ) (s₀ : Status) (page : List ℕ) 
 
   pub again : (line : List ℕ) → length line ≡ 8 → line ≡ scanRead (s .device)
       → Serving page₀ used₀ s₀ (putMid used (used + 8 - used) page line) (used + 8) (statusOf next)
-  again line eight shows =
-      rw next-status
-      (record {
-        reached = next-reached;
-        listens = next-listens;
-        told = refl;
-        quiet = ap (λ (e : Device). e .regs .intf) is-taken ∙ taken-quiet (s .device) ∙ h .quiet;
-        room = omega (arith, one-less, h .room);
-        fits = h .fits;
-        size = same-len-mid used (used + 8 - used) page line (eight ∙ sym (part-eight)) ∙ h .size;
-        serves = λ arrived begins. rw (printed line eight, shows) (read-serves (h .serves arrived begins) some);
-      })
+  again line eight shows = record {
+    reached = further reading (askStatus reading reading-listens);
+    listens = status-listens reading reading-listens;
+    told = status-told reading reading-listens ∙ rw (status-count reading reading-listens);
+    quiet = status-quiet reading reading-listens ∙ message-quiet (h .reached) (h .listens) some ∙ h .quiet;
+    room = omega (arith, one-less, h .room);
+    fits = h .fits;
+    size = same-len-mid used (used + 8 - used) page line (eight ∙ sym (part-eight)) ∙ h .size;
+    serves = λ arrived begins. rw (printed line eight, shows) (status-serve (read-serves (h .serves arrived begins) (h .listens) some) reading-listens);
+  }

@@ -1,7 +1,7 @@
 -- What the terminal's steps are, in the device's own definitions, and what holds of it between them.
 use mathlib.Core.Path.{_≡_}
 use mathlib.Core.Bool.{true, false, not}
-use mathlib.Core.List.{List, [], _∷_, _++_}
+use mathlib.Core.List.{List, [], _∷_, _++_, map}
 use Prim.Native.Nat.{ℕ, _+_, _*_}
 use lib.Dec.{eqb}
 use lib.ListN.{length, take, drop, replicate}
@@ -10,13 +10,15 @@ use Rattle.base.specs.Pick.{pick}
 use Rattle.fifo.specs.declared.Message.{Message}
 use Rattle.frame.specs.declared.Header.{Header}
 use Rattle.chip.specs.declared.Device.{Device}
-use Rattle.chip.specs.State.{fresh, normal, filton}
-use Rattle.commands.specs.Verbs.{readMessage}
+use Rattle.chip.specs.State.{fresh, normal}
 use Rattle.events.specs.declared.Event.the-variants.{GoodFrame}
 use Rattle.bus.specs.Event.{event}
 use Rattle.host.specs.Transfer.{transfer, replyAfter}
 use Rattle.promise.specs.Sequence.{Input, shipped, run}
-use Rattle.promise.specs.Ledger.{ledger, fields}
+use Rattle.promise.specs.Frames.{message}
+use Rattle.promise.specs.Recorded.{recorded}
+use Rattle.promise.specs.Registers.{from}
+use Rattle.promise.specs.Settings.{settingsOf, filton}
 use Rattle.terminal.specs.declared.Status.{Status}
 use Rattle.terminal.specs.declared.Turn.{Turn}
 
@@ -56,13 +58,13 @@ scanRead d = drop 6 (reply d 0x48 14)
 -- the device listens: normal mode, no filter is asked, not bus off, and RXFIFO raises INT
 pub record Listens (d : Device) : Type 0 where
   pub acts : d .acting ≡ normal
-  pub unfiltered : filton d ≡ false
+  pub unfiltered : filton (settingsOf d) ≡ false
   pub on : d .counters .busoff ≡ false
   pub enables : d .regs .inte ≡ 0x40
 
 -- a message's data, as 0x48 shows it
 abbrev pub scanIn : Message → List ℕ
-scanIn m = drop 6 (fields readMessage m)
+scanIn m = drop 6 (map (byte (m .bytes)) (1 ∷ from 4 16))
 
 -- the scans in messages, one behind the other
 abbrev pub scans : List Message → List ℕ
@@ -74,11 +76,11 @@ pub record Reached (d : Device) : Type 0 where
   pub history : List Input
   pub is : d ≡ run shipped fresh history
 
--- And by its ledger, what arrived is what was accepted, and what is printed is what reads took.
+-- And by the records of it, what arrived is what was accepted, and what is printed is what reads took.
 pub record Serves (d : Device) (arrived printed : List ℕ) : Type 0 where
   pub reached : Reached d
-  pub accepted : scans (ledger shipped (reached .history) .accepted) ≡ arrived
-  pub taken : scans (ledger shipped (reached .history) .taken) ≡ printed
+  pub accepted : scans (map message (recorded shipped (reached .history) .ledger .accepted)) ≡ arrived
+  pub taken : scans (map message (recorded shipped (reached .history) .ledger .taken)) ≡ printed
 
 -- INTF has RXTMP and RXFIFO while messages wait that the terminal was not yet woken for, and nothing else
 abbrev pub Wakes : Device → Type 0

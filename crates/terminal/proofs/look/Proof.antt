@@ -1,7 +1,6 @@
 -- `terminal::look` meets its contract. Assumes nothing.
 use mathlib.Core.Path.{sym, ap, _∙_}
 use borrow.Author.Needs.{needs}
-use Rattle.bus.specs.Pins.{pins}
 use Rattle.bus.specs.declared.types.Pins.{Pins}
 use Rattle.terminal.proofs.Shifts.{asleep}
 use Rattle.terminal.proofs.look.Statement.{statement}
@@ -20,10 +19,9 @@ returns : tie.Need-returns
 returns c = search needs
 
 returns-2 : tie.Need-returns-2
-unfolding pins
 returns-2 c =
     let start = c .before .before .before in
-    asleep (start .args .d) (start .pre .1 .0) (start .pre .1 .1 .0) (sym (ap (λ (p : Pins). p .int) (c .before .pins .ensures)) ∙ c .if1 .left)
+    asleep (start .args .d) (start .pre .0) (start .pre .1 .0) (start .pre .1 .1 .0) (sym (ap (λ (p : Pins). p .int) (c .before .pins .ensures)) ∙ c .if1 .left)
     (start .args .page .now) (start .args .at)
 
 pub look-spec : {M : Type 1} → statement M

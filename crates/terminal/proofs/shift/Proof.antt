@@ -4,7 +4,7 @@ use Prim.Native.Nat.{_+_, _-_, _/_, _%_}
 use native.Mathlib.Omega.{arith}
 use borrow.Author.Needs.{needs}
 use lib.ListN.{length}
-use Rattle.terminal.proofs.Shifts.{Shifting, on, scan-eight, scanned, ready, looked, finished}
+use Rattle.terminal.proofs.Shifts.{Shifting, begun, scan-eight, scanned, ready, looked, finished}
 use Rattle.terminal.proofs.shift.Statement.{statement}
 use Rattle.terminal.proofs.shift.Tie as tie
 
@@ -18,7 +18,7 @@ switched-on-requires : tie.Need-switched-on-requires Inv-loop μ-loop
 switched-on-requires c κs = tt
 
 loop-holds : tie.Need-loop-holds Inv-loop μ-loop
-loop-holds c = rw (c .switched-on .ensures) (on _ _ _ (omega arith) (c .before .before .before .pre))
+loop-holds c = rw (c .switched-on .ensures) (begun _ _ _ (omega arith) (c .before .before .before .pre))
 
 bring-requires : tie.Need-bring-requires Inv-loop μ-loop
 bring-requires c κs = scan-eight _ _ _ _ _ _ _ _ (c .before .before .loop .inv) (c .before .loop-test .taken)

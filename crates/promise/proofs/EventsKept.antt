@@ -1,0 +1,199 @@
+-- Each event that is done keeps the device to the records, and says what is due. Assumes nothing.
+use mathlib.Core.Path.{_≡_, refl, sym, _∙_, ap, subst}
+use mathlib.Core.Bool.{Bool, true, false, not, _&&_, false≢true}
+use mathlib.Core.List.{List, [], _∷_}
+use Prim.Native.Nat.{ℕ}
+use native.Mathlib.Omega.{arith}
+use borrow.Author.Tests.{not-true, not-false}
+use lib.Bits.{bitOr}
+use lib.Dec.{eqb}
+use Rattle.base.specs.Bit.{byte}
+use Rattle.base.specs.Pick.{pick}
+use Rattle.base.proofs.Booleans.{and-left, and-right}
+use Rattle.counters.specs.Rules.{receiveError, dominantBit, transmitError, completed, elevenRecessive}
+use Rattle.fifo.specs.declared.Message.{Message}
+use Rattle.fifo.specs.Queue.{isEmpty}
+use Rattle.frame.specs.Length.{possible, dataFits}
+use Rattle.frame.specs.Received.{headerIn, dataIn}
+use Rattle.chip.specs.declared.Device.{Device}
+use Rattle.chip.specs.State.{loopback, idle, bor}
+use Rattle.flags.specs.Flags.{raised, busError}
+use Rattle.transmit.specs.Transmit.{canBegin, withoutTx1m as cleared6, ctrl1Begun, begun, stopped, countedCompletion, sent}
+use Rattle.receive.specs.declared.Arrival.{Arrival}
+use Rattle.receive.specs.Receive.{arrived, filtersAndRoom, ownHeader, ownData}
+use Rattle.events.specs.declared.ErrorKind.{ErrorKind}
+use Rattle.events.specs.declared.ErrorKind.the-variants.{Stuff, Ack, Crc, Form, Bit}
+use Rattle.events.specs.declared.Event.{Event}
+use Rattle.events.specs.declared.Event.the-variants.{GoodFrame, ReceiveError, DominantBit, TransmitError, Begun, Completed}
+use Rattle.events.specs.declared.Event.the-variants.{ArbitrationLost, ElevenRecessive, BusQuiet, BusActivity, Ticks, TxenPin, MrPin}
+use Rattle.events.specs.declared.Event.the-variants.{Unknown}
+use Rattle.judged.specs.declared.Answer.{Answer}
+use Rattle.judged.specs.declared.Answer.the-variants.{Arrived, Done}
+use Rattle.judged.specs.Judged.{runs, impossibleFrame, impossible, reason, echo, said}
+use Rattle.changed.specs.Changed.{errBit, countedReceiveError, receiveErrorMet, dominantMet, countedTransmitError, transmitErrorMet, echoed}
+use Rattle.changed.specs.Changed.{recessiveMet, ticked, pinSet, arrival, after}
+use Rattle.bus.specs.Event.{reasonOf, valuesOf, outcome}
+use Rattle.promise.specs.Counting.{groupMet}
+use Rattle.promise.specs.Flags.{txcplt, kindBit}
+use Rattle.promise.specs.Frames.{Frame}
+use Rattle.promise.specs.Outbox.{inFlight, rests}
+use Rattle.promise.specs.Arrivals.{arriving, own, frame, nothing, dueOf, valuesDue}
+use Rattle.promise.specs.Noted.{begunMet, completedMet, heard, happened}
+use Rattle.promise.specs.Written.{Own}
+use Rattle.promise.specs.Records.{Records}
+use Rattle.promise.specs.Settings.{Settings, settingsOf, with-ctrl1, withoutTx1m, with-pin, osm, bor as borBit}
+use Rattle.promise.proofs.Arrivals.{bus-due, own-due, bus-finds, own-finds, heard-kept, frame-kept}
+use Rattle.promise.proofs.Boxes.{rests-same, buffer-runs, halted-boxed, begun-boxed, sent-boxed}
+use Rattle.promise.proofs.Fits.{some-wait}
+use Rattle.promise.proofs.Kept.{Kept}
+use Rattle.promise.proofs.Written.{header-of, eight-of}
+use Rattle.promise.proofs.ModesKept.{reset-kept, quiet-kept, activity-kept}
+
+kind-same : (kind : ErrorKind) → errBit kind ≡ kindBit kind
+unfolding errBit
+kind-same Stuff = refl
+kind-same Ack = refl
+kind-same Crc = refl
+kind-same Form = refl
+kind-same Bit = refl
+
+module _ (d : Device) (r : Records) (h : Kept d r) where
+  acts : d .acting ≡ r .settings .acting
+  acts = ap (λ (s : Settings). s .acting) (h .0)
+
+  -- ---- transmissions
+
+  pub sent-kept : rests (r .outbox .running) ≡ false → Kept (sent d) (completedMet r)
+  unfolding sent raised cleared6 countedCompletion completed
+  sent-kept some = (
+    ap withoutTx1m (h .0),
+    h .1,
+    (rw (h .2 .0, acts), h .2 .1, h .2 .2, ap (λ bits. bitOr bits txcplt) (h .2 .3)),
+    h .3,
+    rw (← h .2 .1) (sent-boxed _ _ _ _ _ _ (h .4) (d .time) some),
+  )
+
+  one-shot : (t : Bool) (s : Settings) (v : ℕ) → with-ctrl1 s (pick t v (s .ctrl1)) ≡ pick t (with-ctrl1 s v) s
+  one-shot true s v = refl
+  one-shot false s v = refl
+
+  pub begun-kept : canBegin d ≡ true → Kept (begun d) (begunMet r)
+  unfolding begun canBegin ctrl1Begun cleared6
+  begun-kept can = (
+    one-shot (osm (settingsOf d)) (settingsOf d) _ ∙ ap (λ (s : Settings). pick (osm s) (withoutTx1m s) s) (h .0),
+    h .1,
+    h .2,
+    h .3,
+    begun-boxed _ _ _ _ _ _ (h .4) (some-wait (d .tx .count) (and-left (not (isEmpty (d .tx))) _ (and-right (eqb (d .sending) idle) _ can))),
+  )
+
+-- ---- what an event says, and leaves
+
+module _ (d : Device) (r : Records) (h : Kept d r) where
+  runs-some : runs d ≡ true → rests (r .outbox .running) ≡ false
+  unfolding runs
+  runs-some is = not-true (rests (r .outbox .running)) (rw (rests-same _ _ _ _ _ _ (h .4)) at is)
+
+  -- ---- a completion: in loopback the own message arrives first
+
+  module _ (some : rests (r .outbox .running) ≡ false) (payload : List ℕ) where
+    abbrev m : Own
+    m = inFlight (r .outbox .running)
+
+    header-is : ownHeader d ≡ m .header
+    header-is = rw (buffer-runs _ _ _ _ _ _ (h .4) some) (header-of m (h .4 .flying))
+
+    data-is : ownData d ≡ m .eight
+    data-is = rw (buffer-runs _ _ _ _ _ _ (h .4) some) (eight-of m (h .4 .flying))
+
+    own-same : arriving r (ownHeader d) (ownData d) ≡ own r
+    own-same = rw (header-is, data-is)
+
+    own-possible : possible (ownHeader d) ≡ true
+    own-possible = rw header-is (h .4 .flying .0)
+
+    own-told : Arrival
+    own-told = filtersAndRoom d (ownHeader d) (ownData d)
+
+    own-says : reasonOf own-told ∷ [] ≡ dueOf r (frame (own r) [])
+    unfolding own-told
+    own-says = ap (λ n. n ∷ []) (own-due d r h (ownHeader d) (ownData d) own-possible) ∙ ap (λ (f : Frame). dueOf r (frame f [])) own-same
+
+    own-kept : Kept (echoed d own-told) (completedMet (heard r (own r) (reasonOf own-told)))
+    unfolding echoed own-told
+    own-kept =
+        let arrives = arriving r (ownHeader d) (ownData d) in
+        subst (λ (f : Frame). Kept (echoed d own-told) (completedMet (heard r f (reasonOf own-told)))) own-same
+        (sent-kept (arrived d (ownHeader d) (ownData d) own-told) (heard r arrives (reasonOf own-told))
+        (heard-kept d r h (ownHeader d) (ownData d) own-possible own-told (own-finds d r h (ownHeader d) (ownData d) own-possible))
+        some)
+
+    by-mode : (t : Bool)
+        → Kept
+        (outcome d Completed payload (pick t (Arrived own-told) Done) .device)
+        (completedMet (pick t (heard r (own r) (byte (dueOf r (pick t (frame (own r) []) nothing)) 1)) r))
+        × (valuesOf (outcome d Completed payload (pick t (Arrived own-told) Done) .answer) ≡ dueOf r (pick t (frame (own r) []) nothing))
+    unfolding arrival after valuesOf
+    by-mode true = (
+      subst (λ (n : ℕ). Kept (echoed d own-told) (completedMet (heard r (own r) n))) (ap (λ values. byte values 1) own-says) own-kept,
+      own-says,
+    )
+    by-mode false = (sent-kept d r h some, refl)
+
+  -- ---- each event
+
+  -- the device keeps to the records, and the answer has the values that are due
+  abbrev Agrees : Event → List ℕ → Answer → Type 0
+  Agrees e payload a =
+      Kept (outcome d e payload a .device) (happened r e payload (byte (valuesDue r e payload) 1))
+      × (valuesOf (outcome d e payload a .answer) ≡ valuesDue r e payload)
+
+  pub event-agrees : (e : Event) (payload : List ℕ) → impossible d e ≡ false → Agrees e payload (said d e payload)
+  unfolding said echo own-told arrival after happened impossible impossibleFrame receiveErrorMet busError raised countedReceiveError receiveError dominantMet dominantBit
+      transmitErrorMet countedTransmitError transmitError stopped recessiveMet elevenRecessive ticked pinSet valuesOf
+  event-agrees (GoodFrame header acknowledged count) payload can =
+      let ok = and-left (possible header) _ (not-false (possible header && dataFits header count) can) in
+      let due = bus-due d r h header payload ok acknowledged in (
+        rw (← due) (frame-kept d r h header payload ok (reason d header acknowledged payload) (bus-finds d r h header payload ok acknowledged)),
+        ap (λ n. n ∷ []) due,
+      )
+  event-agrees (ReceiveError kind) payload can = (
+    (
+      h .0,
+      h .1,
+      (rw (h .2 .0, acts d r h), h .2 .1, rw (kind-same kind, h .2 .2), rw (h .2 .3)),
+      h .3,
+      h .4,
+    ),
+    refl,
+  )
+  event-agrees DominantBit payload can = ((h .0, h .1, (rw (h .2 .0, acts d r h), h .2 .1, h .2 .2, h .2 .3), h .3, h .4), refl)
+  event-agrees (TransmitError kind counted) payload can = (
+    (
+      h .0,
+      h .1,
+      (rw (h .2 .0, acts d r h), h .2 .1, rw (kind-same kind, h .2 .2), rw (h .2 .3)),
+      h .3,
+      halted-boxed _ _ _ _ _ _ (h .4),
+    ),
+    refl,
+  )
+  event-agrees Begun payload can = (begun-kept d r h (not-false (canBegin d) can), refl)
+  event-agrees Completed payload can = rw (ap (λ a. eqb a loopback) (acts d r h)) (by-mode (runs-some (not-false (runs d) can)) payload (eqb (r .settings .acting) loopback))
+  event-agrees ArbitrationLost payload can = ((h .0, h .1, h .2, h .3, halted-boxed _ _ _ _ _ _ (h .4)), refl)
+  event-agrees ElevenRecessive payload can = (
+    (
+      h .0,
+      h .1,
+      (ap (λ c. groupMet c (bor d)) (h .2 .0) ∙ ap (λ s. groupMet (r .counters) (borBit s)) (h .0), h .2 .1, h .2 .2, h .2 .3),
+      h .3,
+      h .4,
+    ),
+    refl,
+  )
+  event-agrees BusQuiet payload can = (quiet-kept d r h, refl)
+  event-agrees BusActivity payload can = (activity-kept d r h, refl)
+  event-agrees (Ticks count) payload can = ((h .0, h .1, (h .2 .0, rw (h .2 .1) (omega arith), h .2 .2, h .2 .3), h .3, h .4), refl)
+  event-agrees (TxenPin level) payload can = ((ap (λ s. with-pin s level) (h .0), h .1, h .2, h .3, h .4), refl)
+  event-agrees MrPin payload can = (reset-kept d r h, refl)
+  event-agrees Unknown payload can = absurd (false≢true (sym can))

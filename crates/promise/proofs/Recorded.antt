@@ -1,0 +1,231 @@
+-- After every sequence from a fresh device it keeps to the records, and every answer is the one that is due. Assumes nothing.
+use mathlib.Core.Path.{_≡_, refl, sym, _∙_, ap}
+use mathlib.Core.Bool.{Bool, true, false, not}
+use mathlib.Core.List.{List, [], _∷_, _++_, foldl}
+use Prim.Native.Nat.{ℕ, _<_, _≤_, _+_, _%_}
+use native.Mathlib.Omega.{arith}
+use native.Mathlib.Nat.{mod-eq-of-lt}
+use borrow.Author.Tests.{le-leb, ltb-false, not-false}
+use lib.Dec.{eqb, leb}
+use lib.ListN.{length, take, drop, length-take}
+use Rattle.base.specs.Bit.{byte}
+use Rattle.base.specs.Pick.{pick}
+use Rattle.base.proofs.Booleans.{and-right}
+use Rattle.chip.specs.declared.Device.{Device}
+use Rattle.chip.specs.State.{fresh}
+use Rattle.drawn.specs.Drawn.{int, stat, gp}
+use Rattle.events.specs.declared.Event.{Event}
+use Rattle.judged.specs.Judged.{impossible, said}
+use Rattle.bus.specs.Event.{numberOf, valuesOf}
+use Rattle.bus.specs.Pins.{pins}
+use Rattle.commands.specs.declared.Found.the-variants.{At}
+use Rattle.commands.specs.declared.Row.{Row}
+use Rattle.commands.specs.Table.{rows, lookup}
+use Rattle.refused.specs.Refused.{findsFull, findsNone}
+use Rattle.shown.specs.Shown.{shows}
+use Rattle.promise.specs.Promises.{EachAnswerIsDue, SettingsAreThoseWritten, CountersAreTheRulesSum, TheTimeTagIsTheTicks, ErrIsTheKindsSeen}
+use Rattle.promise.specs.Promises.{IntfIsTheFlagsRaised, PinsShowTheRecords, NoFrameIsLost, FieldsStandAsTheyArrived, OwnMessagesAreThoseWritten}
+use Rattle.promise.specs.Promises.{TheAnswersKeepTheRecords}
+use Rattle.promise.specs.Sequence.{Input, spi, wire, Given, Step, shipped as step, number, values, done, run, conversation}
+use Rattle.promise.specs.Commands.{lengthsOf, rightLength}
+use Rattle.promise.specs.Written.{messageFits}
+use Rattle.promise.specs.Numbers.{situation, row as rowSays, numberDue}
+use Rattle.promise.specs.Recorded.{Due, situationOf, recorded}
+use Rattle.promise.specs.Arrivals.{valuesDue}
+use Rattle.promise.specs.Noted.{noted, byTheRules, byTheAnswers, happened}
+use Rattle.promise.specs.Records.{Records, start}
+use Rattle.promise.specs.Registers.{shown, pinsShown}
+use Rattle.promise.specs.Settings.{Settings}
+use Rattle.promise.proofs.Answered.{first, number-of-answer, said-done}
+use Rattle.promise.proofs.Choices.{or-left, or-right}
+use Rattle.promise.proofs.CommandsKept.{command-kept}
+use Rattle.promise.proofs.EventsKept.{event-agrees}
+use Rattle.promise.proofs.Kept.{Kept, fresh-kept, situation-same}
+use Rattle.promise.proofs.Lowest.{lowest-none}
+use Rattle.promise.proofs.Proper.{stays, fresh-in}
+use Rattle.promise.proofs.Queues.{taken-waits}
+use Rattle.promise.proofs.Ranges.{InRange}
+use Rattle.promise.proofs.Replies.{command-shows, intf-same, statf-same}
+use Rattle.promise.proofs.Rows.{asked-same}
+use Rattle.promise.proofs.Steps.{keeps, noted-more, refusedTransfer, doneTransfer, by-transfer, refusedEvent, doneEvent, by-event}
+
+module _ (d : Device) (r : Records) (range : InRange d) (h : Kept d r) where
+  -- the device after an input keeps to the records after it, and what was given is due
+  abbrev Agrees : Input → Step → Type 0
+  Agrees i s = Kept (s .device) (noted byTheRules r i (s .given)) × Due r i (s .given)
+
+  -- the number that is given is the one that the records say
+  number-same : (i : Input) → number (step d i .given) ≡ numberDue (situationOf r) i
+  number-same i = first d i ∙ ap (λ s. numberDue s i) (situation-same d r range h)
+
+  -- ---- transfers
+
+  module _ (bytes buffer : List ℕ) where
+    abbrev a-transfer : Input
+    a-transfer = spi bytes buffer
+
+    refused-agrees : (n : ℕ) → eqb n 0 ≡ false → n ≡ numberDue (situationOf r) a-transfer → Agrees a-transfer (refusedTransfer d n buffer)
+    refused-agrees n some is = (rw some h, rw (← is, some))
+
+    module _ (row : Row) (at : lookup rows (byte bytes 1) ≡ At row) (is : 0 ≡ numberDue (situationOf r) a-transfer) where
+      -- no row of 01's table says so
+      unsaid : (n : ℕ) → 1 ≤ n → n < 9 → rowSays (situation d) a-transfer n ≡ false
+      unfolding numberDue
+      unsaid n = lowest-none (rowSays (situation d) a-transfer) 8 1 n (omega arith) (ap (λ s. numberDue s a-transfer) (situation-same d r range h) ∙ sym is)
+
+      some : eqb (length bytes) 0 ≡ false
+      some = or-left (eqb (length bytes) 0) _ (unsaid 3 (omega arith) (omega arith))
+
+      fits-its-length : pick (eqb (byte bytes 1) 0x12) (messageFits (drop 1 bytes)) true ≡ true
+      unfolding rightLength
+      fits-its-length =
+          let right : rightLength bytes ≡ true = not-false (rightLength bytes) (or-right (eqb (length bytes) 0) (not (rightLength bytes)) (unsaid 3 (omega arith) (omega arith))) in
+          and-right (leb (length bytes) (lengthsOf (byte bytes 1) .most + 1)) _ (and-right (leb (lengthsOf (byte bytes 1) .least + 1) (length bytes)) _ right)
+
+      finds-room : findsFull (d .tx .count) (row .verb) ≡ false
+      finds-room = sym (ap (λ x. x .4) (asked-same d (byte bytes 1) row at)) ∙ unsaid 6 (omega arith) (omega arith)
+
+      finds-one : findsNone (d .rx .count) (d .history .count) (row .verb) ≡ false
+      finds-one = sym (ap (λ x. x .5) (asked-same d (byte bytes 1) row at)) ∙ unsaid 7 (omega arith) (omega arith)
+
+      long-enough : row .out ≤ length buffer
+      long-enough =
+          let out-is = ap (λ x. x .1 .out) (asked-same d (byte bytes 1) row at) in
+          rw (← out-is) (ltb-false (length buffer) (lengthsOf (byte bytes 1) .out) (unsaid 4 (omega arith) (omega arith)))
+
+      abbrev reply : List ℕ
+      reply = take (row .out) (shows d (row .verb) (row .index))
+
+      fits : length reply ≤ length buffer
+      fits = omega (arith, long-enough, length-take (row .out) (shows d (row .verb) (row .index)))
+
+      done-agrees : Agrees a-transfer (doneTransfer d row bytes buffer)
+      done-agrees = (
+        command-kept d r h bytes some row at (finds-room, finds-one, fits-its-length),
+        rw (← is, le-leb (length reply) (length buffer) fits, command-shows d r range h (byte bytes 1) row at finds-one),
+      )
+
+    transfer-agrees : Agrees a-transfer (step d a-transfer)
+    transfer-agrees =
+        by-transfer (Agrees a-transfer) d bytes buffer
+        (λ n e some. refused-agrees n some (ap (λ (s : Step). number (s .given)) (sym e) ∙ number-same a-transfer))
+        (λ row e at. done-agrees row at (ap (λ (s : Step). number (s .given)) (sym e) ∙ number-same a-transfer))
+
+  -- ---- events
+
+  module _ (e : Event) (payload : List ℕ) where
+    abbrev an-event : Input
+    an-event = wire e payload
+
+    refused-event-agrees : (n : ℕ) → eqb n 0 ≡ false → number (refusedEvent d n .given) ≡ numberDue (situationOf r) an-event → Agrees an-event (refusedEvent d n)
+    unfolding numberOf valuesOf
+    refused-event-agrees n some is = (rw some h, (is, rw (← is, some)))
+
+    done-event-agrees : impossible d e ≡ false → number (doneEvent d e payload (said d e payload) .given) ≡ numberDue (situationOf r) an-event
+        → Agrees an-event (doneEvent d e payload (said d e payload))
+    done-event-agrees can is =
+        let number-is = number-of-answer d e payload (said d e payload) ∙ said-done d e payload in
+        let agrees = event-agrees d r h e payload can in
+        (rw number-is (agrees .0), (is, rw (← is, number-is) (agrees .1)))
+
+    event-kept : Agrees an-event (step d an-event)
+    event-kept =
+        by-event (λ s. number (s .given) ≡ numberDue (situationOf r) an-event → Agrees an-event s) d e payload
+        refused-event-agrees done-event-agrees (number-same an-event)
+
+  agrees : (i : Input) → Agrees i (step d i)
+  agrees (spi bytes buffer) = transfer-agrees bytes buffer
+  agrees (wire e payload) = event-kept e payload
+
+  -- ---- the pins
+
+  half-same : (x : ℕ) → x % 16 % 16 ≡ x % 16
+  half-same x = mod-eq-of-lt (omega arith)
+
+  pins-same : pins d ≡ pinsShown r
+  unfolding pins int stat gp
+  pins-same =
+      rw (
+        half-same (d .regs .gpine),
+        statf-same d r range h,
+        intf-same d r range h,
+        ap (λ (s : Settings). s .inte) (h .0),
+        ap (λ (s : Settings). s .statfe) (h .0),
+        ap (λ (s : Settings). s .gpine) (h .0),
+      )
+
+-- ---- along a sequence
+
+abbrev Sound : Device → Records → Type 0
+Sound d r = InRange d × Kept d r
+
+sound-on : (d : Device) (r : Records) (i : Input) → Sound d r → Sound (step d i .device) (noted byTheRules r i (step d i .given))
+sound-on d r i s = (stays d i (s .0), agrees d r (s .0) (s .1) i .0)
+
+always : (is : List Input) → Sound (run step fresh is) (recorded step is)
+always is = keeps (noted byTheRules) Sound sound-on fresh start is (fresh-in, fresh-kept)
+
+pub due : EachAnswerIsDue
+due is i = agrees (run step fresh is) (recorded step is) (always is .0) (always is .1) i .1
+
+pub settled : SettingsAreThoseWritten
+settled is = always is .1 .0
+
+pub counted : CountersAreTheRulesSum
+counted is = always is .1 .2 .0
+
+pub timed : TheTimeTagIsTheTicks
+timed is = always is .1 .2 .1
+
+pub seen : ErrIsTheKindsSeen
+seen is = always is .1 .2 .2
+
+pub raised : IntfIsTheFlagsRaised
+raised is = always is .1 .2 .3
+
+pub pinned : PinsShowTheRecords
+pinned is = pins-same (run step fresh is) (recorded step is) (always is .0) (always is .1)
+
+pub whole : NoFrameIsLost
+whole is = always is .1 .3 .2 .whole
+
+pub as-arrived : FieldsStandAsTheyArrived
+as-arrived is = (always is .1 .3 .3, always is .1 .3 .2 .shown)
+
+pub sent : OwnMessagesAreThoseWritten
+sent is = (always is .1 .4 .queue, always is .1 .4 .runs)
+
+-- ---- by what was answered
+
+told-same : (t : Bool) (r : Records) (e : Event) (payload told : List ℕ) (n : ℕ) → eqb n 0 ≡ t → told ≡ pick (eqb n 0) (valuesDue r e payload) []
+    → pick t (happened r e payload (byte told 1)) r ≡ pick t (happened r e payload (byte (valuesDue r e payload) 1)) r
+told-same true r e payload told n is due = rw (due, is)
+told-same false r e payload told n is due = refl
+
+noted-same : (r : Records) (i : Input) (given : Given) → Due r i given → noted byTheAnswers r i given ≡ noted byTheRules r i given
+noted-same r (spi bytes buffer) given due = refl
+noted-same r (wire e payload) given due =
+    told-same (done given) r e payload (values given) (number given) refl (rw (due .0) (due .1))
+
+along-same : (d : Device) (r : Records) (is : List Input) → Sound d r
+    → foldl (λ r x. noted byTheAnswers r (x .0) (x .1)) r (conversation step d is) ≡ foldl (λ r x. noted byTheRules r (x .0) (x .1)) r (conversation step d is)
+along-same d r [] s = refl
+along-same d r (i ∷ is) s =
+    ap (λ (r : Records). foldl (λ r x. noted byTheAnswers r (x .0) (x .1)) r (conversation step (step d i .device) is))
+    (noted-same r i (step d i .given) (agrees d r (s .0) (s .1) i .1))
+    ∙ along-same (step d i .device) (noted byTheRules r i (step d i .given)) is (sound-on d r i s)
+
+pub same : TheAnswersKeepTheRecords
+same is = along-same fresh start is (fresh-in, fresh-kept)
+
+-- ---- for a caller's proof
+
+-- a sequence with one input more
+pub recorded-more : (is : List Input) (i : Input)
+    → recorded step (is ++ (i ∷ [])) ≡ noted byTheRules (recorded step is) i (step (run step fresh is) i .given)
+recorded-more is i = noted-more (noted byTheRules) fresh start is i
+
+-- how many were taken and how many wait
+pub taken-and-left : (is : List Input)
+    → length (recorded step is .ledger .taken) + run step fresh is .rx .count ≡ length (recorded step is .ledger .accepted)
+taken-and-left is = taken-waits (run step fresh is .rx) (recorded step is .ledger) (always is .1 .3 .2)

@@ -1,0 +1,172 @@
+-- The message that 0x12 brings is kept as the device keeps it, and read back from there. Assumes nothing.
+use mathlib.Core.Path.{_≡_, refl, sym, _∙_, ap, subst}
+use mathlib.Core.Bool.{Bool, true, false}
+use mathlib.Core.List.{List, [], _∷_, _++_}
+use Prim.Native.Nat.{ℕ, suc, _+_, _-_, _*_, _/_, _%_, _^_, _<_, _≤_}
+use native.Mathlib.Nat.{div-one, mod-lt, mod-mod, mod-eq-of-lt}
+use native.Mathlib.Omega.{arith}
+use borrow.Author.Tests.{lt-ltb, le-leb, ltb-true, leb-true}
+use lib.Dec.{leb, ltb, lit<}
+use lib.ListN.{length, getD, take, drop, replicate, length-append, length-replicate, length-drop}
+use lib.Seq.{length-take-le}
+use Rattle.base.specs.Bit.{byte}
+use Rattle.base.specs.Pick.{pick, flag}
+use Rattle.base.specs.Tabulate.{tabulate}
+use Rattle.base.proofs.Booleans.{and-left, pick-keeps}
+use Rattle.base.proofs.Lists.{listed, shift, table-at, tabulate-same}
+use Rattle.frame.specs.declared.Header.{Header}
+use Rattle.frame.specs.Length.{possible, dataBytes, dataLength, dataOf}
+use Rattle.frame.specs.Received.{received, headerIn, dataIn}
+use Rattle.frame.specs.Tables.{idBits, idAsRead}
+use Rattle.frame.proofs.Data.{data-bytes-le}
+use Rattle.frame.proofs.Parts.{code-fits}
+use Rattle.sent.specs.declared.ToSend.{ToSend}
+use Rattle.sent.specs.Sent.{standardHeader, extendedHeader, headerSent, rightLength, messageOf, stored}
+use Rattle.sent.proofs.StoredBack.{stored-header, stored-data}
+use Rattle.promise.specs.Frames.{dataCount, dataByte, identifierIn, identifierRead}
+use Rattle.promise.specs.Written.{Own, noMessage, marksExtended, dataFrom, standardWritten, extendedWritten, headerWritten, messageFits, messageWritten, kept}
+use Rattle.promise.proofs.Queues.{data-length}
+use Rattle.promise.proofs.Shown.{count-same, data-at, identifier-laid}
+
+-- ---- the header
+
+-- the device's, with its identifier cut to its width
+abbrev reduced : Header → Header
+reduced h = record { id = h .id % pick (h .extended) (2 ^ 29) (2 ^ 11); extended = h .extended; remote = h .remote; code = h .code }
+
+by-kind : (t : Bool) (s : List ℕ)
+    → pick t (extendedWritten s) (standardWritten s)
+    ≡ reduced (pick t (extendedHeader (byte s 2) (byte s 3) (byte s 4) (byte s 5) (byte s 6)) (standardHeader (byte s 2) (byte s 3) (byte s 4)))
+by-kind true s = rw (div-one (byte s 3))
+by-kind false s = refl
+
+header-reduced : (s : List ℕ) → headerWritten s ≡ reduced (headerSent s)
+unfolding headerSent
+header-reduced s = by-kind (marksExtended s) s
+
+count-reduced : (h : Header) → dataBytes h ≡ dataCount (reduced h)
+count-reduced h = count-same h
+
+below : (t : Bool) (n : ℕ) → n % pick t (2 ^ 29) (2 ^ 11) < pick t (2 ^ 29) (2 ^ 11)
+below true n = mod-lt n (lit< tt)
+below false n = mod-lt n (lit< tt)
+
+code-below : (s : List ℕ) → headerSent s .code ≤ 15
+unfolding headerSent
+code-below s = pick-keeps (λ (h : Header). h .code ≤ 15) (marksExtended s) _ _ (omega arith) (omega arith)
+
+possible-reduced : (h : Header) → h .code ≤ 15 → possible (reduced h) ≡ true
+unfolding possible
+possible-reduced h few = rw (lt-ltb _ _ (below (h .extended) (h .id)), le-leb (h .code) 15 few)
+
+bits-cases : (t : Bool) (n : ℕ)
+    → pick t (n % pick t (2 ^ 29) (2 ^ 11) % 2 ^ 29) (n % pick t (2 ^ 29) (2 ^ 11) % 2 ^ 11 * 2 ^ 18) ≡ pick t (n % 2 ^ 29) (n % 2 ^ 11 * 2 ^ 18)
+bits-cases true n = mod-eq-of-lt (mod-lt n (lit< tt))
+bits-cases false n = ap (λ (m : ℕ). m * 2 ^ 18) (mod-eq-of-lt (mod-lt n (lit< tt)))
+
+bits-reduced : (h : Header) → idBits (reduced h) ≡ idBits h
+unfolding idBits
+bits-reduced h = bits-cases (h .extended) (h .id)
+
+-- ---- the data
+
+module _ (h : Header) (xs : List ℕ) (enough : dataBytes h ≤ length xs) where
+  pub eight-long : length (dataOf h xs) ≡ 8
+  unfolding dataOf
+  eight-long =
+      let few = data-bytes-le h in
+      rw (length-append (take (dataBytes h) xs) (replicate (8 - dataBytes h) 0), length-take-le (dataBytes h) xs enough, length-replicate {A = ℕ} (8 - dataBytes h) 0)
+      (omega arith)
+
+  data-listed : dataOf h xs ≡ tabulate (dataByte h xs) 1 8
+  data-listed =
+      listed 0 (dataOf h xs)
+      ∙ rw eight-long (tabulate-same _ _ 0 8 (λ k p q. data-at h xs k))
+      ∙ sym (shift (dataByte h xs) 0 8)
+
+pick-twice : (t : Bool) (n : ℕ) → pick t (pick t n 0) 0 ≡ pick t n 0
+pick-twice true n = refl
+pick-twice false n = refl
+
+-- data that were cut and filled up stay as they are
+data-again : (h : Header) (xs : List ℕ) → dataBytes h ≤ length xs → dataOf h (dataOf h xs) ≡ dataOf h xs
+data-again h xs enough =
+    data-listed h (dataOf h xs) (rw (eight-long h xs enough) (data-bytes-le h))
+    ∙ shift (dataByte h (dataOf h xs)) 0 8
+    ∙ tabulate-same (λ (k : ℕ). dataByte h (dataOf h xs) (suc k)) (λ (k : ℕ). dataByte h xs (suc k)) 0 8
+    (λ k p q. ap (λ (n : ℕ). pick (ltb k (dataCount h)) n 0) (data-at h xs k) ∙ pick-twice (ltb k (dataCount h)) (getD xs k 0))
+    ∙ sym (shift (dataByte h xs) 0 8)
+    ∙ sym (data-listed h xs enough)
+
+-- ---- the message
+
+-- its header is possible, and its eight bytes are cut and filled up
+abbrev pub Owned : Own → Type 0
+Owned m = (possible (m .header) ≡ true) × (dataOf (m .header) (m .eight) ≡ m .eight)
+
+abbrev toSend : Own → ToSend
+toSend m = record { tag = m .tag; header = m .header; bytes = m .eight }
+
+pub kept-stored : (m : Own) → Owned m → kept m .bytes ≡ stored (toSend m)
+unfolding stored received idAsRead
+kept-stored m owned =
+    let small : m .header .code % 16 ≡ m .header .code = mod-eq-of-lt (omega (arith, code-fits (m .header) (owned .0))) in
+    rw (
+      owned .1,
+      small,
+      ← identifier-laid (m .header) (flag (m .header .extended)) (flag (m .header .remote)) (owned .0),
+    )
+
+pub header-of : (m : Own) → Owned m → headerIn (kept m .bytes) ≡ m .header
+header-of m owned = rw (kept-stored m owned) (stored-header (toSend m) (owned .0))
+
+pub eight-of : (m : Own) → Owned m → dataIn (kept m .bytes) ≡ m .eight
+eight-of m owned = rw (kept-stored m owned) (stored-data (toSend m) ∙ owned .1)
+
+pub kept-few : (m : Own) → Owned m → length (kept m .bytes) ≤ 16
+unfolding stored received idAsRead
+kept-few m owned =
+    let few = data-length (m .header) (m .eight) in
+    subst (λ (bytes : List ℕ). length bytes ≤ 16) (sym (kept-stored m owned)) (omega arith)
+
+-- the device's header is kept like the cut one
+stored-reduced : (tag : ℕ) (h : Header) (bytes : List ℕ)
+    → stored (record { tag = tag; header = h; bytes = bytes }) ≡ stored (record { tag = tag; header = reduced h; bytes = bytes })
+unfolding stored received idAsRead dataOf dataBytes
+stored-reduced tag h bytes = rw (bits-reduced h)
+
+pub none-owned : Owned noMessage
+unfolding possible dataOf dataBytes dataLength
+none-owned = (refl, refl)
+
+-- what 0x12 brings, if it has its length
+
+module _ (s : List ℕ) where
+  pub fits-same : rightLength s ≡ messageFits s
+  unfolding rightLength
+  fits-same = rw (count-same (headerSent s), header-reduced s)
+
+  module _ (fits : rightLength s ≡ true) where
+    abbrev h : Header
+    h = headerSent s
+
+    abbrev raw : List ℕ
+    raw = drop (dataFrom s) s
+
+    enough : dataBytes h ≤ length raw
+    unfolding rightLength
+    enough =
+        let long = leb-true (dataFrom s + dataBytes h) (length s) (and-left (leb (dataFrom s + dataBytes h) (length s)) _ fits) in
+        rw (length-drop (dataFrom s) s) (omega arith)
+
+    eight-is : messageWritten s .eight ≡ dataOf h raw
+    eight-is = rw (header-reduced s) (sym (data-listed h raw enough))
+
+    pub written-owned : Owned (messageWritten s)
+    unfolding dataOf dataBytes
+    written-owned = (rw (header-reduced s) (possible-reduced h (code-below s)), rw (eight-is, header-reduced s) (data-again h raw enough))
+
+    pub stored-kept : stored (messageOf s .message) ≡ kept (messageWritten s) .bytes
+    unfolding messageOf
+    stored-kept =
+        rw (fits, kept-stored (messageWritten s) written-owned, eight-is, header-reduced s) (stored-reduced (byte s 1) h (dataOf h raw))

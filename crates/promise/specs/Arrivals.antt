@@ -1,0 +1,63 @@
+-- A frame that arrives, from the bus or in loopback of our own, and what it has to be told (01, Numbers given back, and
+-- Modes and filters).
+use mathlib.Core.List.{List, [], _∷_}
+use Prim.Native.Nat.{ℕ, _%_}
+use lib.Dec.{eqb}
+use Rattle.base.specs.Pick.{pick}
+use Rattle.frame.specs.declared.Header.{Header}
+use Rattle.events.specs.declared.Event.{Event}
+use Rattle.events.specs.declared.Event.the-variants.{GoodFrame, ReceiveError, DominantBit, TransmitError, Begun, Completed}
+use Rattle.events.specs.declared.Event.the-variants.{ArbitrationLost, ElevenRecessive, BusQuiet, BusActivity, Ticks, TxenPin, MrPin}
+use Rattle.events.specs.declared.Event.the-variants.{Unknown}
+use Rattle.promise.specs.Filters.{compared, filhitOf}
+use Rattle.promise.specs.Frames.{Frame}
+use Rattle.promise.specs.Ledger.{Reason, firstTrue, fromTheBus, reasons}
+use Rattle.promise.specs.Outbox.{inFlight}
+use Rattle.promise.specs.Records.{Records}
+use Rattle.promise.specs.Settings.{loopback, Settings, filton}
+
+-- "from 65535 to 0"
+abbrev pub time : Records → ℕ
+time r = r .ticks % 65536
+
+-- "FILHIT shows the lowest match …; with FILTON at 0 it is 0000"
+abbrev pub filhitNow : Settings → Header → List ℕ → ℕ
+filhitNow s h payload = pick (filton s) (filhitOf (s .filters) (s .masks) (compared h payload)) 0
+
+abbrev pub arriving : Records → Header → List ℕ → Frame
+arriving r h payload = record { header = h; payload = payload; time = time r; filhit = filhitNow (r .settings) h payload }
+
+-- the own message that runs, as a frame
+abbrev pub own : Records → Frame
+own r = let m = inFlight (r .outbox .running) in arriving r (m .header) (m .eight)
+
+pub data Brings : Type 0 where
+  -- a frame, and the reasons that are asked before the filters
+  frame : Frame → List Reason → Brings
+  nothing : Brings
+
+-- "In loopback each completed own message arrives as a good frame"; "A1 speaks only of frames from the bus."
+abbrev pub brings : Records → Event → List ℕ → Brings
+brings r (GoodFrame h acknowledged count) payload =
+    frame (arriving r h payload) (fromTheBus (r .settings .acting) (r .counters .busoff) acknowledged)
+brings r Completed payload = pick (eqb (r .settings .acting) loopback) (frame (own r) []) nothing
+brings r (ReceiveError kind) payload = nothing
+brings r DominantBit payload = nothing
+brings r (TransmitError kind counted) payload = nothing
+brings r Begun payload = nothing
+brings r ArbitrationLost payload = nothing
+brings r ElevenRecessive payload = nothing
+brings r BusQuiet payload = nothing
+brings r BusActivity payload = nothing
+brings r (Ticks count) payload = nothing
+brings r (TxenPin level) payload = nothing
+brings r MrPin payload = nothing
+brings r Unknown payload = nothing
+
+-- what an event has to say beside its number: 0 for Queued, or the first reason that holds
+abbrev pub dueOf : Records → Brings → List ℕ
+dueOf r (frame f earlier) = firstTrue (reasons (filton (r .settings)) (r .ledger) f earlier) ∷ []
+dueOf r nothing = []
+
+abbrev pub valuesDue : Records → Event → List ℕ → List ℕ
+valuesDue r e payload = dueOf r (brings r e payload)

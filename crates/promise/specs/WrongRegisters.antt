@@ -1,0 +1,153 @@
+-- More devices that the promises rule out: in their commands and settings, flags and pins, replies and counters.
+use mathlib.Core.Bool.{_&&_}
+use mathlib.Core.List.{List, [], _∷_}
+use Prim.Native.Nat.{ℕ, _+_, _*_, _/_, _%_}
+use lib.Bits.{bitOr}
+use lib.Dec.{eqb, ltb}
+use lib.ListN.{drop, set, replicate}
+use Rattle.base.specs.Bit.{byte, bit, isSet}
+use Rattle.base.specs.Pick.{pick}
+use Rattle.base.specs.Put.{putOf}
+use Rattle.counters.specs.declared.Counters.{Counters}
+use Rattle.counters.specs.Rules.{zeroed, with-rec, with-tec, with-groups}
+use Rattle.fifo.specs.declared.Message.{Message}
+use Rattle.fifo.specs.Queue.{next, take}
+use Rattle.frame.specs.Received.{headerIn, dataIn}
+use Rattle.chip.specs.declared.Device.{Device}
+use Rattle.chip.specs.declared.Registers.{Registers}
+use Rattle.chip.specs.State.{sleep, alone}
+use Rattle.chip.specs.Parts.{with-rx, with-counters, with-acting, with-regs, with-ctrl0, with-ctrl1, with-errs, with-intf}
+use Rattle.receive.specs.Receive.{message}
+use Rattle.bus.specs.declared.types.Pins.{Pins}
+use Rattle.bus.specs.Pins.{pins}
+use Rattle.promise.specs.Sequence.{spi, wire, Given, replied, answered, Step, Machine, shipped}
+use Rattle.promise.specs.Commands.{lengthsOf}
+use Rattle.promise.specs.Registers.{share}
+use Rattle.promise.specs.Settings.{modeNamed}
+use Rattle.promise.specs.Wrong.{but, butTransfers, taking, replying, with-device, with-given, with-registers, tells, completes, resetDone, misread}
+
+-- ---- commands and settings
+
+-- two commands exchanged: 0x58 clears the receive FIFO, and 0x5A resets the time tag
+abbrev pub commandsExchanged : Machine
+commandsExchanged = taking (misread ((0x58, 0x5A) ∷ (0x5A, 0x58) ∷ []))
+
+-- filters 4 to 7 are written into 0 to 3
+abbrev pub filterElsewhere : Machine
+filterElsewhere = taking (misread ((0x6A, 0x62) ∷ (0x6C, 0x64) ∷ (0x6E, 0x66) ∷ (0x72, 0x68) ∷ []))
+
+-- a sleep that acts before its quiet bus
+abbrev pub sleepsAtOnce : Machine
+sleepsAtOnce = butTransfers (λ d bytes s. pick (eqb (modeNamed (s .device .regs .ctrl0)) sleep) (with-device s (with-acting (s .device) sleep)) s)
+
+-- a wake-up that leaves MODE
+abbrev pub modeStays : Machine
+modeStays =
+    but (λ d i s. pick (eqb (d .acting) sleep && isSet 2 (s .device .regs .intf)) (with-registers s (with-ctrl0 (s .device .regs) (d .regs .ctrl0))) s)
+
+-- BOR read from CTRL0's bit 1: to an event bits 1 and 2 are exchanged
+abbrev pub otherBor : Device → Device
+otherBor d =
+    let v = d .regs .ctrl0 in
+    with-regs d (with-ctrl0 (d .regs) (v / 8 * 8 + bit 1 v * 4 + bit 2 v * 2 + v % 2))
+
+abbrev pub borElsewhere : Machine
+borElsewhere d (spi bytes buffer) = shipped d (spi bytes buffer)
+borElsewhere d (wire e payload) =
+    let s : Step = shipped (otherBor d) (wire e payload) in
+    with-device s (otherBor (s .device))
+
+-- TX1M kept by the completion of a message that 0x54 left alone
+abbrev pub tx1mKept : Machine
+tx1mKept = but (λ d i s. pick (eqb (d .sending) alone && completes d s) (with-registers s (with-ctrl1 (s .device .regs) (d .regs .ctrl1))) s)
+
+-- ---- flags and pins
+
+-- FILTON ignored for the flags: F0MESS and F1MESS as they would rise with it set
+abbrev pub filtering : Device → Device
+filtering d = with-regs d (with-ctrl1 (d .regs) (bitOr (d .regs .ctrl1) 0x10))
+
+abbrev pub filtonIgnored : Machine
+filtonIgnored =
+    but (λ d i s. pick (tells 0 (s .given))
+    (with-registers s (with-intf (s .device .regs) (bitOr (s .device .regs .intf) (shipped (filtering d) i .device .regs .intf % 4)))) s)
+
+-- ERR's bits 0 and 1 exchanged when a kind is seen
+abbrev pub errsExchanged : Machine
+errsExchanged =
+    but (λ d i s. pick (ltb (d .regs .errs) (s .device .regs .errs))
+    (let v = s .device .regs .errs in with-registers s (with-errs (s .device .regs) (v / 4 * 4 + bit 0 v * 2 + bit 1 v))) s)
+
+-- the registers after a reset, as another device would have them
+abbrev pub resetting : (Registers → Registers → Registers) → Machine
+resetting keep = butTransfers (λ d bytes s. pick (resetDone bytes s) (with-registers s (keep (d .regs) (s .device .regs))) s)
+
+-- a reset that clears ERR, and one that keeps INTF
+abbrev pub errCleared : Machine
+errCleared = resetting (λ before after. with-errs after 0)
+
+abbrev pub intfKept : Machine
+intfKept = resetting (λ before after. with-intf after (before .intf))
+
+-- a way to look at the pins that shows INT by STATFE's bits
+abbrev pub intByStatfe : Device → Pins
+intByStatfe d = record { int = share (d .regs .intf) (d .regs .statfe); stat = pins d .stat; gp1 = pins d .gp1; gp2 = pins d .gp2 }
+
+-- ---- replies
+
+-- a read that shows another message's data: the one behind the oldest
+abbrev pub showsAnother : Machine
+showsAnother = replying (λ d. with-rx d (take (d .rx)))
+
+-- the oldest message, with byte 1 as the filters would now have it
+abbrev pub hitNow : Device → Message → Message
+hitNow d m = record { bytes = byte (message d (headerIn (m .bytes)) (dataIn (m .bytes)) .bytes) 1 ∷ drop 1 (m .bytes) }
+
+-- a hit computed at read time
+abbrev pub hitAtRead : Machine
+hitAtRead =
+    replying (λ d. with-rx d (record {
+      items = set (d .rx .items) (d .rx .first % 8) (hitNow d (next (d .rx)));
+      first = d .rx .first;
+      count = d .rx .count;
+    }))
+
+-- 01: "one that replies zeros always"
+abbrev pub blanked : List ℕ → Given → Given
+blanked bytes (replied n buffer) = replied n (pick (eqb n 0) (putOf (replicate (lengthsOf (byte bytes 1) .out) 0) buffer) buffer)
+blanked bytes (answered a) = answered a
+
+abbrev pub repliesZeros : Machine
+repliesZeros = butTransfers (λ d bytes s. with-given s (blanked bytes (s .given)))
+
+-- one that counts truly and shows zeros for REC, TEC and the groups
+abbrev pub blind : Machine
+blind = replying (λ d. with-counters d zeroed)
+
+-- one that clears ERR and INTF before it shows them
+abbrev pub clearsFirst : Machine
+clearsFirst = replying (λ d. with-regs d (with-errs (with-intf (d .regs) 0) 0))
+
+-- 01: "a device that refuses each transfer"
+abbrev pub refusesAll : Machine
+refusesAll d (spi bytes buffer) = record { device = d; given = replied 2 buffer }
+refusesAll d (wire e payload) = shipped d (wire e payload)
+
+-- ---- counters
+
+-- 01: "one whose steps change nothing"
+abbrev pub changesNothing : Machine
+changesNothing = but (λ d i s. with-device s d)
+
+-- 01: "a made-up REC, TEC or recessive count"
+abbrev pub counting : (Counters → Counters) → Machine
+counting makeUp = but (λ d i s. with-device s (with-counters (s .device) (makeUp (s .device .counters))))
+
+abbrev pub madeUpRec : Machine
+madeUpRec = counting (λ c. with-rec c 0)
+
+abbrev pub madeUpTec : Machine
+madeUpTec = counting (λ c. with-tec c 0)
+
+abbrev pub madeUpGroups : Machine
+madeUpGroups = counting (λ c. with-groups c 0)
