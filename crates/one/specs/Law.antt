@@ -91,6 +91,12 @@ module _ (M : Type 1) where
       pub makes : stated s ≡ made-of clauses
       pub one : (a : Inputs T) (x y : Outcome T a) → Allows clauses a x → Allows clauses a y → x ≡ y
 
+    -- the contract is made of clauses by which, of every outcome that they allow, a part is what is defined
+    pub record Equates (s : Stated) (Part : Inputs T → Type 0) (part : (a : Inputs T) → Outcome T a → Part a) (defined : (a : Inputs T) → Part a) : Type 2 where
+      pub clauses : Written
+      pub makes : stated s ≡ made-of clauses
+      pub equal : (a : Inputs T) (x : Outcome T a) → Allows clauses a x → part a x ≡ defined a
+
 -- whatever its clauses, two results that satisfy the contract are equal
 pub only-result :
     {M : Type 1} {T : Ended} {s : Stated M T} → OneResult M T s → (a : Inputs T) (r q : Res (T .signature) (a .0)) →
@@ -123,25 +129,35 @@ only-result {M} {T} {s} o a r q p p′ =
       },
     )))
 
--- ---- the law: the clauses equate a part of the outcome with a definition, and the outcome is no more than that part
+-- ---- the law: where the outcome is no more than the part that the clauses equate with a definition, there is one
 
-pub by-equation :
+module _ {M : Type 1} {T : Ended} {s : Stated M T} {Part : Inputs T → Type 0} {part : (a : Inputs T) → Outcome T a → Part a} {defined : (a : Inputs T) → Part a} where
+  pub by-equation : Equates M T s Part part defined → ((a : Inputs T) (x y : Outcome T a) → part a x ≡ part a y → x ≡ y) → OneResult M T s
+  by-equation e whole = record {
+    clauses = e .clauses;
+    makes = e .makes;
+    one = λ a x y p q. whole a x y (one-result (e .equal a x p) (e .equal a y q));
+  }
+
+  -- what is read off an equal part is equal
+  pub read-off : Equates M T s Part part defined → (Seen : Type 0) (see : (a : Inputs T) → Part a → Seen)
+      → Equates M T s (λ a. Seen) (λ a x. see a (part a x)) (λ a. see a (defined a))
+  read-off e Seen see = record { clauses = e .clauses; makes = e .makes; equal = λ a x p. ap (see a) (e .equal a x p) }
+
+-- an equation in the clauses is one of the outcomes that they allow: a fact in the logic is a truncated one, and the values of
+-- a type with codes are a set
+pub equates :
     {M : Type 1} {T : Ended} {s : Stated M T} (c : Written M T) (Part : Inputs T → Type 0)
     (part : (a : Inputs T) → Outcome T a → Part a) (defined : (a : Inputs T) → Part a) →
     ((a : Inputs T) → Coded (Part a)) →
-    ((a : Inputs T) (x y : Outcome T a) → part a x ≡ part a y → x ≡ y) →
     stated M T s ≡ made-of M T c →
     ((m : Model M) (a : Inputs T) (g : Ghost M T c m a) (x : Outcome T a) →
     ent (m .𝓤) (ensures M T c m a g x) (fact (m .𝓤) (part a x ≡ defined a))) →
-    OneResult M T s
-by-equation {M} {T} c Part part defined coded whole makes says = record {
+    Equates M T s Part part defined
+equates c Part part defined coded makes says = record {
   clauses = c;
   makes = makes;
-  one = λ a x y p q. whole a x y (one-result (equal a x p) (equal a y q));
+  equal = λ a x p.
+      ∥∥₁-elim (says (p .model) a (p .ghost) x .apply (p .resource) (p .holds))
+      (coded-set (coded a) (part a x) (defined a)) (λ t. t .0);
 }
-  where
-    -- a fact in the logic is a truncated one, and the values of a type with codes are a set
-    equal : (a : Inputs T) (x : Outcome T a) → Allows M T c a x → part a x ≡ defined a
-    equal a x p =
-        ∥∥₁-elim (says (p .model) a (p .ghost) x .apply (p .resource) (p .holds))
-        (coded-set (coded a) (part a x) (defined a)) (λ t. t .0)

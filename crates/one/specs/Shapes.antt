@@ -16,7 +16,7 @@ use denote.Triple.Spec.{Spec}
 use denote.Triple.Clauses.{Ended, closing}
 use Rattle.thin.specs.Shape.{thin-ended, thin-clauses}
 use Rattle.one.specs.Law.{Inputs, Left, Outcome, Model, Stated, Written, stated, made-of}
-use Rattle.one.specs.Law.{Ghost, Ensures, ensures, OneResult, by-equation}
+use Rattle.one.specs.Law.{Ghost, Ensures, ensures, OneResult, Equates, equates, by-equation}
 
 -- ---- a definition as a function of a signature's parameters
 
@@ -36,6 +36,9 @@ module _ (T : Ended) where
 
   abbrev pub To : Type 0 → Type 0
   To X = (κs : Lfts (T .signature .lifetimes)) → Takes κs X (T .signature .params)
+
+  abbrev pub Result : Inputs T → Type 0
+  Result a = Res (T .signature) (a .0)
 
   abbrev pub result-at : ToResult → (a : Inputs T) → Res (T .signature) (a .0)
   result-at f a = given (a .0) (Res (T .signature) (a .0)) (T .signature .params) (f (a .0)) (a .1)
@@ -80,26 +83,40 @@ module _ (M : Type 1) (T : Ended) (c : Written M T) where
   abbrev pub Both : Ensures M T c → Ensures M T c → Ensures M T c
   Both P Q m a g x = sep (m .𝓤) (P m a g x) (Q m a g x)
 
+module _ (M : Type 1) (T : Ended) (s : Stated M T) (c : Written M T) where
+  abbrev pub ResultReads : ToResult T → Type 2
+  ResultReads f = Reads M T s c (ResultIs M T c f) {X = NoneLent T} (λ a v w. v) (λ a v w. w)
+
+  -- `of` reads what lent memory holds at exit, and `to` has nothing besides
+  abbrev pub BothRead : {X : Type 0} → ((a : Inputs T) → Left T a → X) → ((a : Inputs T) → X → Left T a) → ToResult T → To T X → Type 2
+  BothRead of to f h =
+      Reads M T s c (Both M T c (ResultIs M T c f) (ContentIs M T c of h))
+      {X = (a : Inputs T) → Left T a → Left T a} (λ a w. w) (λ a w. to a (of a w))
+
 module _ {M : Type 1} {T : Ended} {s : Stated M T} (c : Written M T) where
   -- ---- the result is f of the parameters
-  pub result : (f : ToResult T) → Reads M T s c (ResultIs M T c f) {X = NoneLent T} (λ a v w. v) (λ a v w. w) → OneResult M T s
-  result f reads =
-      by-equation c (λ a. Res (T .signature) (a .0)) (λ a x. x .0) (result-at T f) (result-coded T)
-      (λ a x y p i. (p i, reads i .2 a (x .1) (y .1)))
+
+  pub result-is : (f : ToResult T) → ResultReads M T s c f → Equates M T s (Result T) (λ a x. x .0) (result-at T f)
+  result-is f reads =
+      equates c (Result T) (λ a x. x .0) (result-at T f) (result-coded T)
       (λ i. reads i .0)
       (says M T s c (ResultIs M T c f) (λ a v w. v) (λ a v w. w) reads)
+
+  pub result : (f : ToResult T) → ResultReads M T s c f → OneResult M T s
+  result f reads = by-equation (result-is f reads) (λ a x y p i. (p i, reads i .2 a (x .1) (y .1)))
 
   -- ---- and φ holds of it
   pub result-and :
       (f : ToResult T) (φ : (a : Inputs T) → Res (T .signature) (a .0) → Type 0) →
       Reads M T s c (ResultIsAnd M T c f φ) {X = NoneLent T} (λ a v w. v) (λ a v w. w) → OneResult M T s
   result-and f φ reads =
-      by-equation c (λ a. Res (T .signature) (a .0)) (λ a x. x .0) (result-at T f) (result-coded T)
-      (λ a x y p i. (p i, reads i .2 a (x .1) (y .1)))
+      by-equation
+      (equates c (Result T) (λ a x. x .0) (result-at T f) (result-coded T)
       (λ i. reads i .0)
       (λ m a g x. via (m .𝓤) (ResultIsAnd M T c f φ m a g x)
       (says M T s c (ResultIsAnd M T c f φ) (λ a v w. v) (λ a v w. w) reads m a g x)
-      (fact-mono (m .𝓤) ((x .0 ≡ result-at T f a) × φ a (x .0)) (x .0 ≡ result-at T f a) (λ p. p .0)))
+      (fact-mono (m .𝓤) ((x .0 ≡ result-at T f a) × φ a (x .0)) (x .0 ≡ result-at T f a) (λ p. p .0))))
+      (λ a x y p i. (p i, reads i .2 a (x .1) (y .1)))
 
   module _ {X : Type 0} (coded : Coded X) (of : (a : Inputs T) → Left T a → X) (to : (a : Inputs T) → X → Left T a) where
     -- ---- lent memory holds f of the parameters at exit: `of` reads its content, and `to` has nothing besides
@@ -109,24 +126,23 @@ module _ {M : Type 1} {T : Ended} {s : Stated M T} (c : Written M T) where
         {X = (a : Inputs T) → Outcome T a → Outcome T a → Outcome T a} (λ a x y. x) (λ a x y. (y .0, to a (of a (x .1)))) →
         OneResult M T s
     content f reads =
-        by-equation c (λ a. X) (λ a x. of a (x .1)) (at T X f) (λ a. coded)
-        (λ a x y p. (λ i. reads i .2 a x y) ∙ (λ i. (y .0, to a (p i))) ∙ sym (λ i. reads i .2 a y y))
+        by-equation
+        (equates c (λ a. X) (λ a x. of a (x .1)) (at T X f) (λ a. coded)
         (λ i. reads i .0)
-        (says M T s c (ContentIs M T c of f) (λ a x y. x) (λ a x y. (y .0, to a (of a (x .1)))) reads)
+        (says M T s c (ContentIs M T c of f) (λ a x y. x) (λ a x y. (y .0, to a (of a (x .1)))) reads))
+        (λ a x y p. (λ i. reads i .2 a x y) ∙ (λ i. (y .0, to a (p i))) ∙ sym (λ i. reads i .2 a y y))
 
     -- ---- the result is f of the parameters, and lent memory holds h of them at exit
-    pub result-and-content :
-        (f : ToResult T) (h : To T X) →
-        Reads M T s c (Both M T c (ResultIs M T c f) (ContentIs M T c of h))
-        {X = (a : Inputs T) → Left T a → Left T a} (λ a w. w) (λ a w. to a (of a w)) →
-        OneResult M T s
-    result-and-content f h reads =
-        by-equation c (λ a. Res (T .signature) (a .0) × X) (λ a x. (x .0, of a (x .1))) (λ a. (result-at T f a, at T X h a))
+
+    pub result-and-content-are :
+        (f : ToResult T) (h : To T X) → BothRead M T s c of to f h →
+        Equates M T s (λ a. Result T a × X) (λ a x. (x .0, of a (x .1))) (λ a. (result-at T f a, at T X h a))
+    result-and-content-are f h reads =
+        equates c (λ a. Result T a × X) (λ a x. (x .0, of a (x .1))) (λ a. (result-at T f a, at T X h a))
         (λ a. coded× (result-coded T a) coded)
-        (λ a x y p. (λ i. (x .0, reads i .2 a (x .1))) ∙ (λ i. (p i .0, to a (p i .1))) ∙ sym (λ i. (y .0, reads i .2 a (y .1))))
         (λ i. reads i .0)
         (λ m a g x.
-        let equal : Type 0 = _≡_ {A = Res (T .signature) (a .0) × X} (x .0, of a (x .1)) (result-at T f a, at T X h a) in
+        let equal : Type 0 = _≡_ {A = Result T a × X} (x .0, of a (x .1)) (result-at T f a, at T X h a) in
         let P : SProp (m .𝓤) = ResultIs M T c f m a g x in
         let Q : SProp (m .𝓤) = ContentIs M T c of h m a g x in
         via (m .𝓤) (sep (m .𝓤) P Q)
@@ -134,6 +150,11 @@ module _ {M : Type 1} {T : Ended} {s : Stated M T} (c : Written M T) where
         (fact-use (m .𝓤) (x .0 ≡ result-at T f a) (fst∗ (m .𝓤) P Q) (λ p.
         fact-use (m .𝓤) (of a (x .1) ≡ at T X h a) (snd∗ (m .𝓤) P Q) (λ q.
         factI (m .𝓤) equal (sep (m .𝓤) P Q) (λ i. (p i, q i))))))
+
+    pub result-and-content : (f : ToResult T) (h : To T X) → BothRead M T s c of to f h → OneResult M T s
+    result-and-content f h reads =
+        by-equation (result-and-content-are f h reads)
+        (λ a x y p. (λ i. (x .0, reads i .2 a (x .1))) ∙ (λ i. (p i .0, to a (p i .1))) ∙ sym (λ i. (y .0, reads i .2 a (y .1))))
 
 -- ---- a struct behind a `&mut`, as thin's law has it: at exit it is f of what it was
 pub lent :
