@@ -1,4 +1,5 @@
--- After every sequence from a fresh device it keeps to the records, and every answer is the one that is due. Assumes nothing.
+-- In any device that holds what the records have every answer is the one that is due, and so it goes on: after every sequence
+-- from a fresh one, too. Assumes nothing.
 use mathlib.Core.Path.{_≡_, refl, sym, _∙_, ap}
 use mathlib.Core.Bool.{Bool, true, false, not}
 use mathlib.Core.List.{List, [], _∷_, _++_, foldl}
@@ -25,21 +26,24 @@ use Rattle.refused.specs.Refused.{findsFull, findsNone}
 use Rattle.shown.specs.Shown.{shows}
 use Rattle.promise.specs.Promises.{EachAnswerIsDue, SettingsAreThoseWritten, CountersAreTheRulesSum, TheTimeTagIsTheTicks, ErrIsTheKindsSeen}
 use Rattle.promise.specs.Promises.{IntfIsTheFlagsRaised, PinsShowTheRecords, NoFrameIsLost, FieldsStandAsTheyArrived, OwnMessagesAreThoseWritten}
-use Rattle.promise.specs.Promises.{TheAnswersKeepTheRecords}
+use Rattle.promise.specs.Promises.{TheAnswersKeepTheRecords, AnyDeviceGoesOnSo}
 use Rattle.promise.specs.Sequence.{Input, spi, wire, Given, Step, shipped as step, number, values, done, run, conversation}
 use Rattle.promise.specs.Commands.{lengthsOf, rightLength}
-use Rattle.promise.specs.Written.{messageFits}
+use Rattle.promise.specs.Own.{messageFits}
 use Rattle.promise.specs.Numbers.{situation, row as rowSays, numberDue}
-use Rattle.promise.specs.Recorded.{Due, situationOf, recorded}
+use Rattle.promise.specs.Due.{Due, situationOf}
+use Rattle.promise.specs.Held.{Pinned, Holds}
+use Rattle.promise.specs.After.{recorded}
 use Rattle.promise.specs.Arrivals.{valuesDue}
 use Rattle.promise.specs.Noted.{noted, byTheRules, byTheAnswers, happened}
 use Rattle.promise.specs.Records.{Records, start}
-use Rattle.promise.specs.Registers.{shown, pinsShown}
+use Rattle.promise.specs.Registers.{pinsShown}
 use Rattle.promise.specs.Settings.{Settings}
 use Rattle.promise.proofs.Answered.{first, number-of-answer, said-done}
 use Rattle.promise.proofs.Choices.{or-left, or-right}
 use Rattle.promise.proofs.CommandsKept.{command-kept}
 use Rattle.promise.proofs.EventsKept.{event-agrees}
+use Rattle.promise.proofs.Held.{held-in, held-kept, kept-held}
 use Rattle.promise.proofs.Kept.{Kept, fresh-kept, situation-same}
 use Rattle.promise.proofs.Lowest.{lowest-none}
 use Rattle.promise.proofs.Proper.{stays, fresh-in}
@@ -154,46 +158,64 @@ module _ (d : Device) (r : Records) (range : InRange d) (h : Kept d r) where
         ap (λ (s : Settings). s .gpine) (h .0),
       )
 
+-- ---- in any device
+
+module _ (d : Device) (r : Records) (h : Holds d r) where
+  range : InRange d
+  range = held-in d r h
+
+  kept : Kept d r
+  kept = held-kept d r h
+
+  holds-on : (i : Input) → Holds (step d i .device) (noted byTheRules r i (step d i .given))
+  holds-on i = kept-held _ _ (stays d i range) (agrees d r range kept i .0)
+
+  due-in : (i : Input) → Due r i (step d i .given)
+  due-in i = agrees d r range kept i .1
+
+  pinned-in : Pinned pins d r
+  pinned-in = pins-same d r range kept
+
+pub onward : AnyDeviceGoesOnSo
+onward d r h = (pinned-in d r h, due-in d r h, holds-on d r h)
+
 -- ---- along a sequence
 
-abbrev Sound : Device → Records → Type 0
-Sound d r = InRange d × Kept d r
+pub fresh-holds : Holds fresh start
+fresh-holds = kept-held fresh start fresh-in fresh-kept
 
-sound-on : (d : Device) (r : Records) (i : Input) → Sound d r → Sound (step d i .device) (noted byTheRules r i (step d i .given))
-sound-on d r i s = (stays d i (s .0), agrees d r (s .0) (s .1) i .0)
-
-always : (is : List Input) → Sound (run step fresh is) (recorded step is)
-always is = keeps (noted byTheRules) Sound sound-on fresh start is (fresh-in, fresh-kept)
+always : (is : List Input) → Holds (run step fresh is) (recorded step is)
+always is = keeps (noted byTheRules) Holds (λ d r i h. holds-on d r h i) fresh start is fresh-holds
 
 pub due : EachAnswerIsDue
-due is i = agrees (run step fresh is) (recorded step is) (always is .0) (always is .1) i .1
+due is = due-in (run step fresh is) (recorded step is) (always is)
 
 pub settled : SettingsAreThoseWritten
-settled is = always is .1 .0
+settled is = always is .settled
 
 pub counted : CountersAreTheRulesSum
-counted is = always is .1 .2 .0
+counted is = always is .counted
 
 pub timed : TheTimeTagIsTheTicks
-timed is = always is .1 .2 .1
+timed is = always is .timed
 
 pub seen : ErrIsTheKindsSeen
-seen is = always is .1 .2 .2
+seen is = always is .seen
 
 pub raised : IntfIsTheFlagsRaised
-raised is = always is .1 .2 .3
+raised is = always is .raised
 
 pub pinned : PinsShowTheRecords
-pinned is = pins-same (run step fresh is) (recorded step is) (always is .0) (always is .1)
+pinned is = pinned-in (run step fresh is) (recorded step is) (always is)
 
 pub whole : NoFrameIsLost
-whole is = always is .1 .3 .2 .whole
+whole is = always is .whole
 
 pub as-arrived : FieldsStandAsTheyArrived
-as-arrived is = (always is .1 .3 .3, always is .1 .3 .2 .shown)
+as-arrived is = always is .arrived
 
 pub sent : OwnMessagesAreThoseWritten
-sent is = (always is .1 .4 .queue, always is .1 .4 .runs)
+sent is = always is .sent
 
 -- ---- by what was answered
 
@@ -207,16 +229,16 @@ noted-same r (spi bytes buffer) given due = refl
 noted-same r (wire e payload) given due =
     told-same (done given) r e payload (values given) (number given) refl (rw (due .0) (due .1))
 
-along-same : (d : Device) (r : Records) (is : List Input) → Sound d r
+along-same : (d : Device) (r : Records) (is : List Input) → Holds d r
     → foldl (λ r x. noted byTheAnswers r (x .0) (x .1)) r (conversation step d is) ≡ foldl (λ r x. noted byTheRules r (x .0) (x .1)) r (conversation step d is)
-along-same d r [] s = refl
-along-same d r (i ∷ is) s =
+along-same d r [] h = refl
+along-same d r (i ∷ is) h =
     ap (λ (r : Records). foldl (λ r x. noted byTheAnswers r (x .0) (x .1)) r (conversation step (step d i .device) is))
-    (noted-same r i (step d i .given) (agrees d r (s .0) (s .1) i .1))
-    ∙ along-same (step d i .device) (noted byTheRules r i (step d i .given)) is (sound-on d r i s)
+    (noted-same r i (step d i .given) (due-in d r h i))
+    ∙ along-same (step d i .device) (noted byTheRules r i (step d i .given)) is (holds-on d r h i)
 
 pub same : TheAnswersKeepTheRecords
-same is = along-same fresh start is (fresh-in, fresh-kept)
+same is = along-same fresh start is fresh-holds
 
 -- ---- for a caller's proof
 
@@ -228,4 +250,4 @@ recorded-more is i = noted-more (noted byTheRules) fresh start is i
 -- how many were taken and how many wait
 pub taken-and-left : (is : List Input)
     → length (recorded step is .ledger .taken) + run step fresh is .rx .count ≡ length (recorded step is .ledger .accepted)
-taken-and-left is = taken-waits (run step fresh is .rx) (recorded step is .ledger) (always is .1 .3 .2)
+taken-and-left is = taken-waits (run step fresh is .rx) (recorded step is .ledger) (kept (run step fresh is) (recorded step is) (always is) .3 .2)

@@ -1,17 +1,15 @@
 -- Each number is the first that 01's table gives, and a refusal leaves all as it came. Assumes nothing.
 use mathlib.Core.Path.{_≡_, refl, sym, _∙_, ap}
-use mathlib.Core.Bool.{Bool, true, false, not, _&&_}
+use mathlib.Core.Bool.{Bool, true, false, not, _&&_, false≢true}
 use mathlib.Core.List.{List}
-use mathlib.Core.Bool.{and-assoc}
-use Prim.Native.Nat.{ℕ}
+use Prim.Native.Nat.{ℕ, _≤_}
 use native.Mathlib.Omega.{arith}
 use borrow.Author.Tests.{eqb-true}
 use lib.Dec.{eqb}
 use lib.ListN.{length, drop}
 use Rattle.base.specs.Bit.{byte}
 use Rattle.base.specs.Pick.{pick}
-use Rattle.frame.specs.declared.Header.{Header}
-use Rattle.frame.specs.Length.{possible, dataFits}
+use Rattle.frame.specs.Length.{possible}
 use Rattle.chip.specs.declared.Device.{Device}
 use Rattle.chip.specs.Proper.{proper}
 use Rattle.chip.specs.State.{loopback, idle, enabled}
@@ -34,23 +32,16 @@ use Rattle.refused.specs.declared.Verdict.the-variants.{Refused as RefusedTrans
 use Rattle.refused.specs.Refused.{refusal, rowJudged, verdict, lengthFits}
 use Rattle.host.specs.Transfer.{transfer, outcome as transferred}
 use Rattle.promise.specs.Promises.{EveryInputIsAnswered, TheFirstNumberIsGiven, EachNumberExactly, ARefusalChangesNothing}
-use Rattle.promise.specs.Sequence.{spi, wire, shipped as step, number}
+use Rattle.promise.specs.Sequence.{Input, spi, wire, shipped as step, number}
 use Rattle.promise.specs.Commands.{rightLength}
-use Rattle.promise.specs.Frames.{canArrive}
 use Rattle.promise.specs.Ranges.{inRange}
-use Rattle.promise.specs.Numbers.{situation, row, cannotBe, numberDue, numberGiven, Untouched}
+use Rattle.promise.specs.Numbers.{situation, row, cannotBe, numberDue, refuses, Fits, numberGiven, Untouched}
 use Rattle.promise.proofs.Ranges.{proper-same}
 use Rattle.promise.proofs.Rows.{asked-same, no-command}
 use Rattle.promise.proofs.Steps.{by-transfer, by-event}
-use Rattle.promise.proofs.Shown.{count-same}
-use Rattle.promise.proofs.Written.{fits-same}
+use Rattle.promise.proofs.Shown.{arrives-same}
+use Rattle.promise.proofs.Own.{fits-same}
 use Rattle.promise.proofs.Lowest.{lowest-first, first-lowest, lowest-le}
-
--- ---- a frame that can be
-
-pub arrives-same : (h : Header) (count : ℕ) → (possible h && dataFits h count) ≡ canArrive h count
-unfolding possible dataFits
-arrives-same h count = rw (count-same h) (simp and-assoc)
 
 -- ---- transfers
 
@@ -120,33 +111,45 @@ impossible-same d (TxenPin level) = refl
 impossible-same d MrPin = refl
 impossible-same d Unknown = refl
 
-pub number-of-answer : (d : Device) (e : Event) (payload : List ℕ) (a : Answer) → numberOf (outcome d e payload a .answer) ≡ numberOf a
-number-of-answer d e payload (RefusedEvent n) = refl
-number-of-answer d e payload Done = refl
-number-of-answer d e payload (Arrived what) = refl
+echo-told : (t : Bool) (what : Arrival) → refuses (pick t (Arrived what) Done) ≡ false
+echo-told true what = refl
+echo-told false what = refl
 
-echo-done : (t : Bool) (what : Arrival) → numberOf (pick t (Arrived what) Done) ≡ 0
+-- what an event says that isn't refused is no refusal
+said-told : (d : Device) (e : Event) (payload : List ℕ) → refuses (said d e payload) ≡ false
+unfolding said echo
+said-told d (GoodFrame h acknowledged n) payload = refl
+said-told d Completed payload = echo-told (eqb (d .acting) loopback) _
+said-told d (ReceiveError kind) payload = refl
+said-told d DominantBit payload = refl
+said-told d (TransmitError kind counted) payload = refl
+said-told d Begun payload = refl
+said-told d ArbitrationLost payload = refl
+said-told d ElevenRecessive payload = refl
+said-told d BusQuiet payload = refl
+said-told d BusActivity payload = refl
+said-told d (Ticks count) payload = refl
+said-told d (TxenPin level) payload = refl
+said-told d MrPin payload = refl
+said-told d Unknown payload = refl
+
+-- and so it comes with 0
+told-zero : (a : Answer) → refuses a ≡ false → numberOf a ≡ 0
 unfolding numberOf
-echo-done true what = refl
-echo-done false what = refl
+told-zero (RefusedEvent n) told = absurd (false≢true (sym told))
+told-zero Done told = refl
+told-zero (Arrived what) told = refl
 
--- what an event says that isn't refused comes with 0
 pub said-done : (d : Device) (e : Event) (payload : List ℕ) → numberOf (said d e payload) ≡ 0
-unfolding said echo numberOf
-said-done d (GoodFrame h acknowledged n) payload = refl
-said-done d Completed payload = echo-done (eqb (d .acting) loopback) _
-said-done d (ReceiveError kind) payload = refl
-said-done d DominantBit payload = refl
-said-done d (TransmitError kind counted) payload = refl
-said-done d Begun payload = refl
-said-done d ArbitrationLost payload = refl
-said-done d ElevenRecessive payload = refl
-said-done d BusQuiet payload = refl
-said-done d BusActivity payload = refl
-said-done d (Ticks count) payload = refl
-said-done d (TxenPin level) payload = refl
-said-done d MrPin payload = refl
-said-done d Unknown payload = refl
+said-done d e payload = told-zero (said d e payload) (said-told d e payload)
+
+told-out : (d : Device) (e : Event) (payload : List ℕ) (a : Answer) → outcome d e payload a .answer ≡ a
+told-out d e payload (RefusedEvent n) = refl
+told-out d e payload Done = refl
+told-out d e payload (Arrived what) = refl
+
+pub number-of-answer : (d : Device) (e : Event) (payload : List ℕ) (a : Answer) → numberOf (outcome d e payload a .answer) ≡ numberOf a
+number-of-answer d e payload a = ap numberOf (told-out d e payload a)
 
 answer-number : (p q : Bool) (a : Answer) → numberOf a ≡ 0
     → numberOf (pick p (pick q (RefusedEvent 8) a) (RefusedEvent 1)) ≡ pick (not p) 1 (pick q 8 0)
@@ -168,9 +171,20 @@ pub first : TheFirstNumberIsGiven
 first d (spi bytes buffer) = transfer-first d bytes buffer
 first d (wire e payload) = event-first d e payload
 
-pub within : EveryInputIsAnswered
+fits : (d : Device) (i : Input) → Fits i (step d i .given)
+unfolding numberOf
+fits d (spi bytes buffer) = tt
+fits d (wire e payload) =
+    by-event (λ s. Fits (wire e payload) (s .given)) d e payload
+    (λ n wrong. rw wrong)
+    (λ possible. rw (told-out d e payload (said d e payload), said-done d e payload) (said-told d e payload))
+
+below : (d : Device) (i : Input) → numberGiven step d i ≤ 8
 unfolding numberDue
-within d i = rw (first d i) (lowest-le (row (situation d) i) 8 1 8 (omega arith))
+below d i = rw (first d i) (lowest-le (row (situation d) i) 8 1 8 (omega arith))
+
+pub within : EveryInputIsAnswered
+within d i = (below d i, fits d i)
 
 pub exactly : EachNumberExactly
 unfolding numberDue

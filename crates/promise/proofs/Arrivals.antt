@@ -41,7 +41,7 @@ use Rattle.promise.proofs.Banks.{bank-patterns}
 use Rattle.promise.proofs.Choices.{pick-keeps, pick-part, pick-both}
 use Rattle.promise.proofs.Kept.{Kept}
 use Rattle.promise.proofs.ModesKept.{activity-kept}
-use Rattle.promise.proofs.Queues.{Holds, left-waits, queue-after}
+use Rattle.promise.proofs.Queues.{HoldsLedger, left-waits, queue-after}
 use Rattle.promise.proofs.Matching.{filhit-same as matched-same}
 use Rattle.promise.proofs.Shown.{compared-same, shows-fields}
 
@@ -203,7 +203,7 @@ module _ (d : Device) (r : Records) (h : Kept d r) where
           filter-flags (bitOr (bitOr (d .regs .intf) rxtmp) (queuedFlag (isQueued what))) (hit d header payload) (hit-below d header payload)
           ∙ rw (filhit-same, queued-same what, h .2 .3) (sym (flags-risen (reasonOf what) (f .filhit) (r .flags)))
 
-      heard-queue : Holds (queueAfter (d .rx) (message f) (eqb (reasonOf what) 0)) (pick (eqb (reasonOf what) 0) (accepts (r .ledger) f) (r .ledger))
+      heard-queue : HoldsLedger (queueAfter (d .rx) (message f) (eqb (reasonOf what) 0)) (pick (eqb (reasonOf what) 0) (accepts (r .ledger) f) (r .ledger))
       heard-queue =
           queue-after (d .rx) (r .ledger) (h .3 .2) (eqb (reasonOf what) 0) f
           (λ told. room (rw (queued-same what) told))

@@ -6,17 +6,12 @@ use lib.ListN.{length, set, length-map, List·getD-map}
 use Rattle.base.proofs.Lists.{listed, tabulate-same}
 use Rattle.chip.specs.declared.Pattern.{Pattern}
 use Rattle.chip.specs.State.{absent, bank}
-use Rattle.promise.specs.Recorded.{Each}
 use Rattle.promise.specs.Settings.{patterns}
 
 pub map-set : {A B : Type 0} (f : A → B) (l : List A) (i : ℕ) (a : A) → map f (set l i a) ≡ set (map f l) i (f a)
 map-set {B = B} f [] i a = refl
 map-set {B = B} f (x ∷ l) zero a = refl
 map-set {B = B} f (x ∷ l) (suc i) a = ap (λ (r : List B). f x ∷ r) (map-set f l i a)
-
--- "eight filters and eight masks of six bytes each"
-abbrev pub Banked : List Pattern → Type 0
-Banked ps = (length ps ≡ 8) × Each (λ (p : Pattern). length (p .bytes) ≡ 6) ps
 
 pub bank-patterns : (ps : List Pattern) → length ps ≡ 8 → bank ps ≡ patterns ps
 unfolding bank

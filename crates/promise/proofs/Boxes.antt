@@ -6,7 +6,7 @@ use Prim.Native.Nat.{ℕ, zero, suc, _-_, _≤_}
 use native.Mathlib.Omega.{arith}
 use borrow.Author.Tests.{leb-true, leb-false}
 use lib.Dec.{eqb, leb}
-use lib.ListN.{length, getD, drop, take, length-map, length-drop, List·getD-map}
+use lib.ListN.{length, getD, drop, length-map, length-drop, List·getD-map}
 use Rattle.base.specs.Pick.{pick}
 use Rattle.fifo.specs.declared.Fifo.{Fifo}
 use Rattle.fifo.specs.declared.Message.{Message}
@@ -16,37 +16,30 @@ use Rattle.chip.specs.State.{idle, firstInFifo}
 use Rattle.transmit.specs.Transmit.{leftAlone, stamped, fifoAfter, tagBits}
 use Rattle.promise.specs.Outbox.{Running, none, first, alone, Outbox, emptied, queued, begun, halted, aloneAfter, clearedOut, inFlight}
 use Rattle.promise.specs.Outbox.{remaining, sent, entryTaken, rests}
-use Rattle.promise.specs.Recorded.{Each, Runs}
-use Rattle.promise.specs.Written.{Own, noMessage, kept}
+use Rattle.promise.specs.Held.{Each, Runs, entryOf, Entry}
+use Rattle.promise.specs.Own.{Own, noMessage, kept, Sendable}
 use Rattle.promise.proofs.Choices.{pick-keeps}
 use Rattle.promise.proofs.Each.{each-more, each-rest}
 use Rattle.promise.proofs.Queues.{waiting-length, taken-items, put-items}
-use Rattle.promise.proofs.Written.{Owned, kept-few, none-owned}
+use Rattle.promise.proofs.Own.{kept-few, none-sendable}
 
 -- ---- the messages that wait
 
-first-owned : (ms : List Own) → Each Owned ms → Owned (getD ms 0 noMessage)
-first-owned [] all = none-owned
-first-owned (m ∷ ms) all = all .0
+first-sendable : (ms : List Own) → Each Sendable ms → Sendable (getD ms 0 noMessage)
+first-sendable [] all = none-sendable
+first-sendable (m ∷ ms) all = all .0
 
 alone-same : (r : Running) → inFlight (aloneAfter r) ≡ inFlight r
 alone-same none = refl
 alone-same (first m) = refl
 alone-same (alone m) = refl
 
-remaining-owned : (ms : List Own) (r : Running) → Each Owned ms → Each Owned (remaining ms r)
-remaining-owned ms none all = all
-remaining-owned ms (first m) all = each-rest Owned ms all
-remaining-owned ms (alone m) all = all
+remaining-sendable : (ms : List Own) (r : Running) → Each Sendable ms → Each Sendable (remaining ms r)
+remaining-sendable ms none all = all
+remaining-sendable ms (first m) all = each-rest Sendable ms all
+remaining-sendable ms (alone m) all = all
 
 -- ---- a device's parts, and the outbox
-
--- tag and time tag
-abbrev pub entryOf : Message → List ℕ
-entryOf m = take 3 (m .bytes)
-
-abbrev pub Entry : Message → Type 0
-Entry m = (3 ≤ length (m .bytes)) × (length (m .bytes) ≤ 16)
 
 stamped-entry : (m : Message) (time : ℕ) → length (m .bytes) ≤ 16 → Entry (stamped m time)
 unfolding stamped
@@ -60,12 +53,12 @@ pub record Boxed (tx : Fifo) (buffer : Message) (sending : ℕ) (history : Fifo)
   pub entries : map entryOf (waiting history) ≡ o .history
   pub tag : mtag ≡ o .mtag
   pub bound : Each Entry (waiting history)
-  pub owned : Each Owned (o .queue)
-  pub flying : Owned (inFlight (o .running))
+  pub sendable : Each Sendable (o .queue)
+  pub flying : Sendable (inFlight (o .running))
 
 pub empty-boxed : (buffer : Message) → Boxed empty buffer idle empty 0 emptied
 unfolding empty
-empty-boxed buffer = record { places = refl; queue = refl; runs = refl; pages = refl; entries = refl; tag = refl; bound = tt; owned = tt; flying = none-owned }
+empty-boxed buffer = record { places = refl; queue = refl; runs = refl; pages = refl; entries = refl; tag = refl; bound = tt; sendable = tt; flying = none-sendable }
 
 -- ---- what waits when the oldest was taken, if there was one
 
@@ -117,13 +110,13 @@ module _ (tx : Fifo) (buffer : Message) (sending : ℕ) (history : Fifo) (mtag :
     entries = h .entries;
     tag = h .tag;
     bound = h .bound;
-    owned = h .owned;
-    flying = none-owned;
+    sendable = h .sendable;
+    flying = none-sendable;
   }
 
   -- 0x12 that finds room
-  pub written-boxed : (m : Own) → Owned m → full tx ≡ false → Boxed (put tx (kept m)) buffer sending history mtag (queued o m)
-  written-boxed m owned room = record {
+  pub written-boxed : (m : Own) → Sendable m → full tx ≡ false → Boxed (put tx (kept m)) buffer sending history mtag (queued o m)
+  written-boxed m sendable room = record {
     places = put-items tx (kept m) ∙ h .places;
     queue =
         put-waits tx (kept m) (h .places) (leb-false 8 (tx .count) room)
@@ -133,7 +126,7 @@ module _ (tx : Fifo) (buffer : Message) (sending : ℕ) (history : Fifo) (mtag :
     entries = h .entries;
     tag = h .tag;
     bound = h .bound;
-    owned = each-more Owned (o .queue) m (h .owned) owned;
+    sendable = each-more Sendable (o .queue) m (h .sendable) sendable;
     flying = h .flying;
   }
 
@@ -154,7 +147,7 @@ module _ (tx : Fifo) (buffer : Message) (sending : ℕ) (history : Fifo) (mtag :
     entries = h .entries;
     tag = h .tag;
     bound = h .bound;
-    owned = tt;
+    sendable = tt;
     flying = rw (alone-same (o .running)) (h .flying);
   }
 
@@ -175,8 +168,8 @@ module _ (tx : Fifo) (buffer : Message) (sending : ℕ) (history : Fifo) (mtag :
         entries = h .entries;
         tag = h .tag;
         bound = h .bound;
-        owned = h .owned;
-        flying = first-owned (o .queue) (h .owned);
+        sendable = h .sendable;
+        flying = first-sendable (o .queue) (h .sendable);
       }
 
   sent-queue : (r : Running) → Runs sending buffer r → waiting (fifoAfter tx sending) ≡ map kept (remaining (o .queue) r)
@@ -210,8 +203,8 @@ module _ (tx : Fifo) (buffer : Message) (sending : ℕ) (history : Fifo) (mtag :
     entries = rw (history-length, buffer-runs some) (entered-same (leb 8 (history .count)) (stamped (kept (inFlight (o .running))) time) refl);
     tag = rw (buffer-runs some);
     bound = bound-more (leb 8 (history .count)) (stamped buffer time) refl (stamped-entry buffer time (rw (buffer-runs some) (kept-few (inFlight (o .running)) (h .flying))));
-    owned = remaining-owned (o .queue) (o .running) (h .owned);
-    flying = none-owned;
+    sendable = remaining-sendable (o .queue) (o .running) (h .sendable);
+    flying = none-sendable;
   }
 
   -- 0xEE
@@ -224,6 +217,6 @@ module _ (tx : Fifo) (buffer : Message) (sending : ℕ) (history : Fifo) (mtag :
     entries = rw (taken-waits history, map-rest, h .entries);
     tag = h .tag;
     bound = rw (taken-waits history) (each-rest Entry (waiting history) (h .bound));
-    owned = h .owned;
+    sendable = h .sendable;
     flying = h .flying;
   }

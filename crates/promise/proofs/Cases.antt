@@ -1,19 +1,28 @@
 -- Each wrong device of `specs/Wrong`, by the promise that it breaks, and on what. Assumes nothing.
+use mathlib.Core.Path.{refl}
 use mathlib.Core.Bool.{true, false}
 use mathlib.Core.List.{List, [], _∷_, _++_, map}
 use Prim.Native.Nat.{ℕ}
 use lib.ListN.{replicate}
 use Rattle.chip.specs.declared.Device.{Device}
+use Rattle.chip.specs.Parts.{with-counters}
 use Rattle.chip.specs.State.{fresh}
+use Rattle.counters.specs.declared.Counters.{Counters}
+use Rattle.fifo.specs.Queue.{empty}
 use Rattle.events.specs.declared.ErrorKind.the-variants.{Stuff, Bit}
 use Rattle.events.specs.declared.Event.the-variants.{GoodFrame, ReceiveError, TransmitError, Begun, Completed, ElevenRecessive, BusQuiet, BusActivity, Ticks}
 use Rattle.bus.specs.declared.types.Pins.{Pins}
 use Rattle.promise.specs.Sequence.{Input, spi, wire, Machine, shipped, run}
-use Rattle.promise.specs.Wrong.{onlyFirst, leisurely, roomFirst, reasonsExchanged, ghost, believesAll, takesTwo, shortTakes, codeClipped}
+use Rattle.promise.specs.Held.{Holds}
+use Rattle.promise.specs.Ranges.{inRange}
+use Rattle.promise.specs.Records.{Records, start, with-counters as with-counted}
+use Rattle.promise.specs.Settings.{modeNamed}
+use Rattle.promise.specs.Wrong.{onlyFirst, leisurely, roomFirst, reasonsExchanged, ghost, deniesDone, believesAll, takesTwo, shortTakes, codeClipped}
 use Rattle.promise.specs.Wrong.{keepsBehind, resetKeeps, modeClears, strangersUnseen, oldCompletion, nothingCopied}
 use Rattle.promise.specs.WrongRegisters.{commandsExchanged, filterElsewhere, sleepsAtOnce, modeStays, borElsewhere, tx1mKept, filtonIgnored}
-use Rattle.promise.specs.WrongRegisters.{errsExchanged, errCleared, intfKept, intByStatfe, showsAnother, hitAtRead, repliesZeros, blind}
+use Rattle.promise.specs.WrongRegisters.{errsExchanged, errCleared, intfKept, intByStatfe, showsAnother, hitAtRead, repliesZeros, blind, groupsAlways}
 use Rattle.promise.specs.WrongRegisters.{clearsFirst, refusesAll, changesNothing, madeUpRec, madeUpTec, madeUpGroups}
+use Rattle.promise.proofs.After.{fresh-holds}
 
 pub data Case : Type 0 where
   lost : Machine → List Input → Case
@@ -28,15 +37,19 @@ pub data Case : Type 0 where
   -- a way to look at the pins
   misshown : (Device → Pins) → List Input → Case
   -- the first frame that the ledger then has
-  misread : Machine → List Input → Case
+  unlikeItself : Machine → List Input → Case
   misjudged : Machine → Device → Input → Case
+  -- a refusal that isn't one
+  misanswered : Machine → Device → Input → Case
   -- a refusal that changes the queue
   changing : Machine → Device → Input → Case
+  -- in a device that holds what these records have
+  astray : (w : Machine) (d : Device) (r : Records) → Holds d r → Input → Case
 
 -- ---- the sequences
 
-abbrev pub normal : Input
-normal = spi (0x14 ∷ 0x00 ∷ []) []
+abbrev pub toNormal : Input
+toNormal = spi (0x14 ∷ 0x00 ∷ []) []
 
 -- identifier 123, with that byte, and another behind it that is not the frame's
 abbrev pub scan : ℕ → Input
@@ -65,7 +78,7 @@ abbrev pub ask : ℕ → Input
 ask c = spi (c ∷ []) (0xFF ∷ [])
 
 abbrev pub two : List Input
-two = normal ∷ scan 1 ∷ scan 2 ∷ []
+two = toNormal ∷ scan 1 ∷ scan 2 ∷ []
 
 -- a mask that counts every bit, so that its filter matches no scan
 abbrev pub maskAll : ℕ → Input
@@ -76,7 +89,7 @@ abbrev pub filtersOn : Input
 filtersOn = spi (0x16 ∷ 0x10 ∷ []) []
 
 abbrev pub noneMatches : List Input
-noneMatches = map maskAll (0x74 ∷ 0x76 ∷ 0x78 ∷ 0x7A ∷ 0x7C ∷ 0x7E ∷ 0x82 ∷ 0x84 ∷ []) ++ normal ∷ []
+noneMatches = map maskAll (0x74 ∷ 0x76 ∷ 0x78 ∷ 0x7A ∷ 0x7C ∷ 0x7E ∷ 0x82 ∷ 0x84 ∷ []) ++ toNormal ∷ []
 
 -- eight scans, then filters on
 abbrev pub strangers : List Input
@@ -84,14 +97,14 @@ strangers = noneMatches ++ map scan (1 ∷ 2 ∷ 3 ∷ 4 ∷ 5 ∷ 6 ∷ 7 ∷ 8
 
 -- filter 0 made to miss, a scan without filters, then filters on: filter 1 would match now
 abbrev pub filtersLater : List Input
-filtersLater = maskAll 0x74 ∷ normal ∷ scan 1 ∷ filtersOn ∷ []
+filtersLater = maskAll 0x74 ∷ toNormal ∷ scan 1 ∷ filtersOn ∷ []
 
 -- sleep with WAKEUP, and then the bus awakes
 abbrev pub wakes : List Input
 wakes = spi (0x14 ∷ 0x70 ∷ []) [] ∷ wire BusQuiet [] ∷ wire BusActivity [] ∷ []
 
 abbrev pub begun : List Input
-begun = normal ∷ spi (0x12 ∷ 0x07 ∷ 0x24 ∷ 0x60 ∷ 0x00 ∷ []) [] ∷ spi (0x16 ∷ 0x80 ∷ []) [] ∷ wire Begun [] ∷ []
+begun = toNormal ∷ spi (0x12 ∷ 0x07 ∷ 0x24 ∷ 0x60 ∷ 0x00 ∷ []) [] ∷ spi (0x16 ∷ 0x80 ∷ []) [] ∷ wire Begun [] ∷ []
 
 -- it fails at TEC 255, then a group of recessive bits comes
 abbrev pub busOff : List Input
@@ -107,7 +120,35 @@ completedAlone =
     begun ++ spi (0x54 ∷ []) [] ∷ spi (0x12 ∷ 0x08 ∷ 0x24 ∷ 0x60 ∷ 0x00 ∷ []) [] ∷ spi (0x16 ∷ 0x40 ∷ []) [] ∷ wire Completed [] ∷ []
 
 abbrev pub error : List Input
-error = normal ∷ wire (ReceiveError Stuff) [] ∷ []
+error = toNormal ∷ wire (ReceiveError Stuff) [] ∷ []
+
+-- a device with groups met outside bus off, which no sequence reaches
+abbrev pub groupsLeft : Counters
+groupsLeft = record { rec = 0; tec = 0; busoff = false; groups = 5 }
+
+abbrev pub oddDevice : Device
+oddDevice = with-counters fresh groupsLeft
+
+abbrev pub oddRecords : Records
+oddRecords = with-counted start groupsLeft
+
+pub odd-holds : Holds oddDevice oddRecords
+unfolding inRange modeNamed fresh empty
+odd-holds = record {
+  fits = refl;
+  shaped = fresh-holds .shaped;
+  settled = fresh-holds .settled;
+  counted = refl;
+  timed = fresh-holds .timed;
+  seen = fresh-holds .seen;
+  raised = fresh-holds .raised;
+  latest = fresh-holds .latest;
+  whole = fresh-holds .whole;
+  arrived = fresh-holds .arrived;
+  sent = fresh-holds .sent;
+  remembered = fresh-holds .remembered;
+  sendable = fresh-holds .sendable;
+}
 
 -- ---- the table
 
@@ -117,16 +158,16 @@ cases =
     lost takesTwo (two ++ read ∷ []) ∷
     lost resetKeeps (two ++ spi (0x56 ∷ []) [] ∷ []) ∷
     lost modeClears (two ++ spi (0x14 ∷ 0x40 ∷ []) [] ∷ []) ∷
-    lost codeClipped (normal ∷ long ∷ []) ∷
-    lost keepsBehind (normal ∷ behind ∷ []) ∷
+    lost codeClipped (toNormal ∷ long ∷ []) ∷
+    lost keepsBehind (toNormal ∷ behind ∷ []) ∷
     lost commandsExchanged (two ++ spi (0x58 ∷ []) [] ∷ []) ∷
-    undue leisurely (normal ∷ wire (Ticks 1) [] ∷ []) (scan 1) ∷
+    undue leisurely (toNormal ∷ wire (Ticks 1) [] ∷ []) (scan 1) ∷
     undue roomFirst strangers (scan 9) ∷
     undue reasonsExchanged [] (scan 1) ∷
     undue showsAnother two read ∷
     undue hitAtRead filtersLater read ∷
     undue repliesZeros two read ∷
-    undue ghost (normal ∷ []) (wire BusQuiet []) ∷
+    undue ghost (toNormal ∷ []) (wire BusQuiet []) ∷
     undue strangersUnseen (noneMatches ++ filtersOn ∷ scan 1 ∷ []) (spi (0x44 ∷ []) (replicate 13 0xFF)) ∷
     undue blind error (ask 0xEA) ∷
     undue clearsFirst error (ask 0xDE) ∷
@@ -142,12 +183,14 @@ cases =
     unseen errCleared (error ++ spi (0x56 ∷ []) [] ∷ []) ∷
     unseen errsExchanged error ∷
     unraised intfKept (error ++ spi (0x56 ∷ []) [] ∷ []) ∷
-    unraised filtonIgnored (normal ∷ scan 1 ∷ []) ∷
+    unraised filtonIgnored (toNormal ∷ scan 1 ∷ []) ∷
     unsent oldCompletion completedAlone ∷
     unsent nothingCopied begun ∷
-    unlike leisurely (normal ∷ wire (Ticks 1) [] ∷ scan 1 ∷ []) ∷
-    misshown intByStatfe (spi (0x1C ∷ 0x40 ∷ []) [] ∷ normal ∷ scan 1 ∷ []) ∷
-    misread believesAll (normal ∷ impossible ∷ []) ∷
+    unlike leisurely (toNormal ∷ wire (Ticks 1) [] ∷ scan 1 ∷ []) ∷
+    misshown intByStatfe (spi (0x1C ∷ 0x40 ∷ []) [] ∷ toNormal ∷ scan 1 ∷ []) ∷
+    unlikeItself believesAll (toNormal ∷ impossible ∷ []) ∷
     misjudged refusesAll fresh (ask 0xD2) ∷
+    misanswered deniesDone fresh (wire (Ticks 1) []) ∷
     changing shortTakes (run shipped fresh two) tooShort ∷
+    astray groupsAlways oddDevice oddRecords odd-holds (ask 0xF8) ∷
     []

@@ -24,19 +24,20 @@ use Rattle.done.specs.Done.{filterWritten, maskWritten, recWritten, tecWritten,
 use Rattle.promise.specs.Counting.{recWritten as recMoved, tecWritten as tecMoved}
 use Rattle.promise.specs.Ledger.{takes}
 use Rattle.promise.specs.Outbox.{queued}
-use Rattle.promise.specs.Written.{messageFits, messageWritten as message, kept}
+use Rattle.promise.specs.Own.{messageFits, messageWritten as message, kept}
 use Rattle.promise.specs.Noted.{deeds, commanded}
+use Rattle.promise.specs.Held.{Banked}
 use Rattle.promise.specs.Records.{Records, with-ledger, with-outbox, with-settings}
 use Rattle.promise.specs.Settings.{Settings, six, disabled, with-ctrl1, with-btr0, with-btr1, with-inte, with-statfe, with-gpine, with-filters, with-masks}
 use Rattle.promise.proofs.Among.{_and_}
-use Rattle.promise.proofs.Banks.{Banked, map-set}
+use Rattle.promise.proofs.Banks.{map-set}
 use Rattle.promise.proofs.Boxes.{halted-boxed, cleared-boxed, written-boxed, read-boxed}
 use Rattle.promise.proofs.Each.{each-set}
 use Rattle.promise.proofs.Kept.{Kept}
 use Rattle.promise.proofs.ModesKept.{reset-kept, ctrl0-kept}
 use Rattle.promise.proofs.Queues.{empty-holds, takes-holds}
 use Rattle.promise.proofs.Rows.{AtRows, at-row}
-use Rattle.promise.proofs.Written.{fits-same, written-owned, stored-kept}
+use Rattle.promise.proofs.Own.{fits-same, written-sendable, stored-kept}
 
 pub banked-set : (ps : List Pattern) (k : ℕ) (bytes : List ℕ) → Banked ps → Banked (set ps k (pattern bytes))
 unfolding pattern
@@ -76,7 +77,7 @@ module _ (d : Device) (r : Records) (h : Kept d r) (bytes : List ℕ) (some : eq
       let s = drop 1 bytes in
       let fits = fits-same s ∙ a .2 in
       let same-message : brought bytes ≡ kept (message s) = ap (λ (b : List ℕ). record { bytes = b }) (stored-kept s fits) in
-      rw (some, same-message) (h .0, h .1, h .2, h .3, written-boxed _ _ _ _ _ _ (h .4) (message s) (written-owned s fits) (a .0))
+      rw (some, same-message) (h .0, h .1, h .2, h .3, written-boxed _ _ _ _ _ _ (h .4) (message s) (written-sendable s fits) (a .0))
 
   filter : (k : ℕ) {A : Type 0} → A
       → Kept (filters-in d (set (d .filters) k (pattern bytes))) (with-settings r (with-filters (r .settings) (set (r .settings .filters) k (six bytes))))

@@ -3,7 +3,7 @@ use mathlib.Core.List.{List, [], _∷_, _++_}
 use Prim.Native.Nat.{ℕ, zero, suc, _<_}
 use native.Mathlib.Nat.{le-of-suc-le-suc, not-suc-le-zero}
 use lib.ListN.{length, getD, set, drop, replicate}
-use Rattle.promise.specs.Recorded.{Each}
+use Rattle.promise.specs.Held.{Each}
 
 module _ {A : Type 0} (P : A → Type 0) where
   pub each-more : (xs : List A) (x : A) → Each P xs → P x → Each P (xs ++ (x ∷ []))

@@ -11,10 +11,8 @@ use Rattle.base.specs.Bit.{byte}
 use Rattle.base.specs.Pick.{pick}
 use Rattle.base.proofs.Booleans.{and-left, and-right}
 use Rattle.counters.specs.Rules.{receiveError, dominantBit, transmitError, completed, elevenRecessive}
-use Rattle.fifo.specs.declared.Message.{Message}
 use Rattle.fifo.specs.Queue.{isEmpty}
 use Rattle.frame.specs.Length.{possible, dataFits}
-use Rattle.frame.specs.Received.{headerIn, dataIn}
 use Rattle.chip.specs.declared.Device.{Device}
 use Rattle.chip.specs.State.{loopback, idle, bor}
 use Rattle.flags.specs.Flags.{raised, busError}
@@ -39,14 +37,14 @@ use Rattle.promise.specs.Frames.{Frame}
 use Rattle.promise.specs.Outbox.{inFlight, rests}
 use Rattle.promise.specs.Arrivals.{arriving, own, frame, nothing, dueOf, valuesDue}
 use Rattle.promise.specs.Noted.{begunMet, completedMet, heard, happened}
-use Rattle.promise.specs.Written.{Own}
+use Rattle.promise.specs.Own.{Own}
 use Rattle.promise.specs.Records.{Records}
 use Rattle.promise.specs.Settings.{Settings, settingsOf, with-ctrl1, withoutTx1m, with-pin, osm, bor as borBit}
 use Rattle.promise.proofs.Arrivals.{bus-due, own-due, bus-finds, own-finds, heard-kept, frame-kept}
 use Rattle.promise.proofs.Boxes.{rests-same, buffer-runs, halted-boxed, begun-boxed, sent-boxed}
 use Rattle.promise.proofs.Fits.{some-wait}
 use Rattle.promise.proofs.Kept.{Kept}
-use Rattle.promise.proofs.Written.{header-of, eight-of}
+use Rattle.promise.proofs.Own.{header-possible, header-of, eight-of}
 use Rattle.promise.proofs.ModesKept.{reset-kept, quiet-kept, activity-kept}
 
 kind-same : (kind : ErrorKind) → errBit kind ≡ kindBit kind
@@ -110,7 +108,7 @@ module _ (d : Device) (r : Records) (h : Kept d r) where
     own-same = rw (header-is, data-is)
 
     own-possible : possible (ownHeader d) ≡ true
-    own-possible = rw header-is (h .4 .flying .0)
+    own-possible = rw header-is (header-possible m (h .4 .flying))
 
     own-told : Arrival
     own-told = filtersAndRoom d (ownHeader d) (ownData d)

@@ -16,13 +16,13 @@ use Rattle.promise.specs.Frames.{message}
 use Rattle.promise.specs.Numbers.{situation}
 use Rattle.promise.specs.Outbox.{rests}
 use Rattle.promise.specs.Ranges.{inRange}
-use Rattle.promise.specs.Recorded.{situationOf}
+use Rattle.promise.specs.Due.{situationOf}
+use Rattle.promise.specs.Held.{Banked}
 use Rattle.promise.specs.Records.{Records, start}
 use Rattle.promise.specs.Settings.{Settings, settingsOf, modeNamed}
-use Rattle.promise.proofs.Banks.{Banked}
 use Rattle.promise.proofs.Boxes.{Boxed, empty-boxed, rests-same, queue-length, history-length}
 use Rattle.promise.proofs.Each.{each-replicate}
-use Rattle.promise.proofs.Queues.{Shown, Holds, empty-holds, left-waits}
+use Rattle.promise.proofs.Queues.{Shown, HoldsLedger, empty-holds, left-waits}
 use Rattle.promise.proofs.Shown.{blank-shown}
 use Rattle.promise.proofs.Ranges.{InRange, ranges-proper, proper-same}
 
@@ -38,7 +38,7 @@ Sums d r =
     × (d .regs .intf ≡ together (r .flags))
 
 abbrev pub Framed : Device → Records → Type 0
-Framed d r = (d .temp ≡ message (r .latest)) × (d .regs .filhit ≡ r .latest .filhit) × Holds (d .rx) (r .ledger) × Shown (r .latest)
+Framed d r = (d .temp ≡ message (r .latest)) × (d .regs .filhit ≡ r .latest .filhit) × HoldsLedger (d .rx) (r .ledger) × Shown (r .latest)
 
 abbrev pub Outgoing : Device → Records → Type 0
 Outgoing d r = Boxed (d .tx) (d .buffer) (d .sending) (d .history) (d .regs .mtag) (r .outbox)

@@ -1,6 +1,6 @@
 -- The filters match as the device's do. Assumes nothing.
-use mathlib.Core.Path.{_≡_, refl, sym, _∙_, ap, ap₂}
-use mathlib.Core.Bool.{Bool, true, false, _&&_, _||_, and-assoc, and-true}
+use mathlib.Core.Path.{_≡_, refl, _∙_, ap₂}
+use mathlib.Core.Bool.{Bool, true, _&&_, and-assoc, and-true}
 use mathlib.Core.List.{List, [], _∷_}
 use Prim.Native.Nat.{ℕ, zero, suc, _+_, _%_, _≤_}
 use native.Mathlib.Nat.{add-suc, suc-add, mod-eq-of-lt}
@@ -9,12 +9,12 @@ use lib.Dec.{eqb}
 use lib.ListN.{getD}
 use Rattle.base.specs.Bit.{byte}
 use Rattle.base.specs.Pick.{pick}
-use Rattle.filter.specs.declared.Hit.the-variants.{Filter, Nothing}
+use Rattle.filter.specs.declared.Hit.the-variants.{Filter}
 use Rattle.filter.specs.Lowest.{lowestFrom as lowestOf, lowest, filhit}
 use Rattle.filter.specs.Match.{agree, byteOf, placeOf, countedOf, matches as matchesBy}
 use Rattle.filter.proofs.Agree.{from, agree-more}
 use Rattle.promise.proofs.Choices.{pick-part}
-use Rattle.promise.specs.Filters.{all, eightBits, counted, bitAgrees, matches, lowestFrom, filhitOf}
+use Rattle.promise.specs.Filters.{all, eightBits, bitAgrees, matches, lowestFrom, filhitOf}
 
 -- a byte's eight places
 byte-agrees : (x f m : ℕ) → agree 8 (byteOf x) (byteOf f) (byteOf m) ≡ all (bitAgrees x f m) eightBits

@@ -1,21 +1,21 @@
 -- The message that 0x12 brings is kept as the device keeps it, and read back from there. Assumes nothing.
 use mathlib.Core.Path.{_≡_, refl, sym, _∙_, ap, subst}
 use mathlib.Core.Bool.{Bool, true, false}
-use mathlib.Core.List.{List, [], _∷_, _++_}
-use Prim.Native.Nat.{ℕ, suc, _+_, _-_, _*_, _/_, _%_, _^_, _<_, _≤_}
-use native.Mathlib.Nat.{div-one, mod-lt, mod-mod, mod-eq-of-lt}
+use mathlib.Core.List.{List}
+use Prim.Native.Nat.{ℕ, _+_, _-_, _*_, _%_, _^_, _<_, _≤_}
+use native.Mathlib.Nat.{div-one, mod-lt, mod-eq-of-lt}
 use native.Mathlib.Omega.{arith}
-use borrow.Author.Tests.{lt-ltb, le-leb, ltb-true, leb-true}
-use lib.Dec.{leb, ltb, lit<}
-use lib.ListN.{length, getD, take, drop, replicate, length-append, length-replicate, length-drop}
+use borrow.Author.Tests.{lt-ltb, le-leb, leb-true, eq-eqb}
+use lib.Dec.{leb, lit<}
+use lib.ListN.{length, take, drop, replicate, length-append, length-replicate, length-drop}
 use lib.Seq.{length-take-le}
 use Rattle.base.specs.Bit.{byte}
 use Rattle.base.specs.Pick.{pick, flag}
 use Rattle.base.specs.Tabulate.{tabulate}
 use Rattle.base.proofs.Booleans.{and-left, pick-keeps}
-use Rattle.base.proofs.Lists.{listed, shift, table-at, tabulate-same}
+use Rattle.base.proofs.Lists.{listed, shift, tabulate-same}
 use Rattle.frame.specs.declared.Header.{Header}
-use Rattle.frame.specs.Length.{possible, dataBytes, dataLength, dataOf}
+use Rattle.frame.specs.Length.{possible, dataFits, dataBytes, dataOf}
 use Rattle.frame.specs.Received.{received, headerIn, dataIn}
 use Rattle.frame.specs.Tables.{idBits, idAsRead}
 use Rattle.frame.proofs.Data.{data-bytes-le}
@@ -23,10 +23,10 @@ use Rattle.frame.proofs.Parts.{code-fits}
 use Rattle.sent.specs.declared.ToSend.{ToSend}
 use Rattle.sent.specs.Sent.{standardHeader, extendedHeader, headerSent, rightLength, messageOf, stored}
 use Rattle.sent.proofs.StoredBack.{stored-header, stored-data}
-use Rattle.promise.specs.Frames.{dataCount, dataByte, identifierIn, identifierRead}
-use Rattle.promise.specs.Written.{Own, noMessage, marksExtended, dataFrom, standardWritten, extendedWritten, headerWritten, messageFits, messageWritten, kept}
+use Rattle.promise.specs.Frames.{dataCount, dataByte}
+use Rattle.promise.specs.Own.{Own, noMessage, marksExtended, dataFrom, standardWritten, extendedWritten, headerWritten, messageFits, messageWritten, kept, Sendable}
 use Rattle.promise.proofs.Queues.{data-length}
-use Rattle.promise.proofs.Shown.{count-same, data-at, identifier-laid}
+use Rattle.promise.proofs.Shown.{count-same, arrives-same, data-at, identifier-laid}
 
 -- ---- the header
 
@@ -89,45 +89,44 @@ pick-twice true n = refl
 pick-twice false n = refl
 
 -- data that were cut and filled up stay as they are
-data-again : (h : Header) (xs : List ℕ) → dataBytes h ≤ length xs → dataOf h (dataOf h xs) ≡ dataOf h xs
-data-again h xs enough =
-    data-listed h (dataOf h xs) (rw (eight-long h xs enough) (data-bytes-le h))
-    ∙ shift (dataByte h (dataOf h xs)) 0 8
-    ∙ tabulate-same (λ (k : ℕ). dataByte h (dataOf h xs) (suc k)) (λ (k : ℕ). dataByte h xs (suc k)) 0 8
-    (λ k p q. ap (λ (n : ℕ). pick (ltb k (dataCount h)) n 0) (data-at h xs k) ∙ pick-twice (ltb k (dataCount h)) (getD xs k 0))
-    ∙ sym (shift (dataByte h xs) 0 8)
-    ∙ sym (data-listed h xs enough)
+data-again : (h : Header) (xs : List ℕ) → tabulate (dataByte h (tabulate (dataByte h xs) 1 8)) 1 8 ≡ tabulate (dataByte h xs) 1 8
+data-again h xs = simp pick-twice
 
 -- ---- the message
-
--- its header is possible, and its eight bytes are cut and filled up
-abbrev pub Owned : Own → Type 0
-Owned m = (possible (m .header) ≡ true) × (dataOf (m .header) (m .eight) ≡ m .eight)
 
 abbrev toSend : Own → ToSend
 toSend m = record { tag = m .tag; header = m .header; bytes = m .eight }
 
-pub kept-stored : (m : Own) → Owned m → kept m .bytes ≡ stored (toSend m)
-unfolding stored received idAsRead
-kept-stored m owned =
-    let small : m .header .code % 16 ≡ m .header .code = mod-eq-of-lt (omega (arith, code-fits (m .header) (owned .0))) in
-    rw (
-      owned .1,
-      small,
-      ← identifier-laid (m .header) (flag (m .header .extended)) (flag (m .header .remote)) (owned .0),
-    )
+module _ (m : Own) (sendable : Sendable m) where
+  pub header-possible : possible (m .header) ≡ true
+  header-possible = and-left (possible (m .header)) _ (arrives-same (m .header) (dataCount (m .header)) ∙ sendable .0)
 
-pub header-of : (m : Own) → Owned m → headerIn (kept m .bytes) ≡ m .header
-header-of m owned = rw (kept-stored m owned) (stored-header (toSend m) (owned .0))
+  cut : dataOf (m .header) (m .eight) ≡ m .eight
+  cut =
+      let long : 8 ≡ length (m .eight) = ap length (sendable .1) in
+      data-listed (m .header) (m .eight) (omega (arith, data-bytes-le (m .header))) ∙ sendable .1
 
-pub eight-of : (m : Own) → Owned m → dataIn (kept m .bytes) ≡ m .eight
-eight-of m owned = rw (kept-stored m owned) (stored-data (toSend m) ∙ owned .1)
+  kept-stored : kept m .bytes ≡ stored (toSend m)
+  unfolding stored received idAsRead
+  kept-stored =
+      let small : m .header .code % 16 ≡ m .header .code = mod-eq-of-lt (omega (arith, code-fits (m .header) header-possible)) in
+      rw (
+        cut,
+        small,
+        ← identifier-laid (m .header) (flag (m .header .extended)) (flag (m .header .remote)) header-possible,
+      )
 
-pub kept-few : (m : Own) → Owned m → length (kept m .bytes) ≤ 16
-unfolding stored received idAsRead
-kept-few m owned =
-    let few = data-length (m .header) (m .eight) in
-    subst (λ (bytes : List ℕ). length bytes ≤ 16) (sym (kept-stored m owned)) (omega arith)
+  pub header-of : headerIn (kept m .bytes) ≡ m .header
+  header-of = rw kept-stored (stored-header (toSend m) header-possible)
+
+  pub eight-of : dataIn (kept m .bytes) ≡ m .eight
+  eight-of = rw kept-stored (stored-data (toSend m) ∙ cut)
+
+  pub kept-few : length (kept m .bytes) ≤ 16
+  unfolding stored received idAsRead
+  kept-few =
+      let few = data-length (m .header) (m .eight) in
+      subst (λ (bytes : List ℕ). length bytes ≤ 16) (sym kept-stored) (omega arith)
 
 -- the device's header is kept like the cut one
 stored-reduced : (tag : ℕ) (h : Header) (bytes : List ℕ)
@@ -135,9 +134,8 @@ stored-reduced : (tag : ℕ) (h : Header) (bytes : List ℕ)
 unfolding stored received idAsRead dataOf dataBytes
 stored-reduced tag h bytes = rw (bits-reduced h)
 
-pub none-owned : Owned noMessage
-unfolding possible dataOf dataBytes dataLength
-none-owned = (refl, refl)
+pub none-sendable : Sendable noMessage
+none-sendable = (refl, refl)
 
 -- what 0x12 brings, if it has its length
 
@@ -162,11 +160,16 @@ module _ (s : List ℕ) where
     eight-is : messageWritten s .eight ≡ dataOf h raw
     eight-is = rw (header-reduced s) (sym (data-listed h raw enough))
 
-    pub written-owned : Owned (messageWritten s)
-    unfolding dataOf dataBytes
-    written-owned = (rw (header-reduced s) (possible-reduced h (code-below s)), rw (eight-is, header-reduced s) (data-again h raw enough))
+    pub written-sendable : Sendable (messageWritten s)
+    unfolding dataFits
+    written-sendable =
+        let g = headerWritten s in (
+          sym (arrives-same g (dataCount g))
+              ∙ rw (header-reduced s, possible-reduced h (code-below s), eq-eqb (dataCount (reduced h)) (dataBytes (reduced h)) (sym (count-same (reduced h)))),
+          data-again g raw,
+        )
 
     pub stored-kept : stored (messageOf s .message) ≡ kept (messageWritten s) .bytes
     unfolding messageOf
     stored-kept =
-        rw (fits, kept-stored (messageWritten s) written-owned, eight-is, header-reduced s) (stored-reduced (byte s 1) h (dataOf h raw))
+        rw (fits, kept-stored (messageWritten s) written-sendable, eight-is, header-reduced s) (stored-reduced (byte s 1) h (dataOf h raw))

@@ -20,7 +20,7 @@ use Rattle.frame.specs.Tables.{idAsRead}
 use Rattle.receive.specs.Receive.{queueAfter}
 use Rattle.promise.specs.Frames.{Frame, blank, message, Shows}
 use Rattle.promise.specs.Ledger.{Ledger, cleared, left, oldest, accepts, takes}
-use Rattle.promise.specs.Recorded.{Each}
+use Rattle.promise.specs.Held.{Each}
 use Rattle.promise.proofs.Choices.{pick-under}
 use Rattle.promise.proofs.Each.{each-more}
 
@@ -64,16 +64,16 @@ put-items q m = pick-under (λ (r : Fifo). length (r .items) ≡ length (q .item
 abbrev pub Shown : Frame → Type 0
 Shown f = Shows f (message f .bytes)
 
-pub record Holds (q : Fifo) (l : Ledger) : Type 0 where
+pub record HoldsLedger (q : Fifo) (l : Ledger) : Type 0 where
   pub places : length (q .items) ≡ 8
   pub whole : map message (l .taken) ++ waiting q ≡ map message (l .accepted)
   pub shown : Each Shown (l .accepted)
 
-pub empty-holds : Holds empty cleared
+pub empty-holds : HoldsLedger empty cleared
 unfolding empty
 empty-holds = record { places = refl; whole = refl; shown = tt }
 
-module _ (q : Fifo) (l : Ledger) (h : Holds q l) where
+module _ (q : Fifo) (l : Ledger) (h : HoldsLedger q l) where
   pub taken-waits : length (l .taken) + q .count ≡ length (l .accepted)
   taken-waits =
       let total : length (map message (l .taken)) + length (waiting q) ≡ length (map message (l .accepted)) =
@@ -93,7 +93,7 @@ module _ (q : Fifo) (l : Ledger) (h : Holds q l) where
         ∙ rw (accepted-is, ← length-map (l .taken) message)
         (getD-append-seam (map message (l .taken)) (next q) (waiting (takeOff q)) (message blank))
 
-    pub takes-holds : Holds (takeOff q) (takes l)
+    pub takes-holds : HoldsLedger (takeOff q) (takes l)
     takes-holds = record {
       places = rw (taken-items q) (h .places);
       whole = rw (map-append, oldest-next) (append-assoc (map message (l .taken)) _ _ ∙ sym accepted-is);
@@ -101,7 +101,7 @@ module _ (q : Fifo) (l : Ledger) (h : Holds q l) where
     }
 
   -- a frame, by whether it is queued
-  pub queue-after : (t : Bool) (f : Frame) → (t ≡ true → q .count < 8) → (t ≡ true → Shown f) → Holds (queueAfter q (message f) t) (pick t (accepts l f) l)
+  pub queue-after : (t : Bool) (f : Frame) → (t ≡ true → q .count < 8) → (t ≡ true → Shown f) → HoldsLedger (queueAfter q (message f) t) (pick t (accepts l f) l)
   unfolding queueAfter
   queue-after true f room shows = record {
     places = rw (put-items q (message f)) (h .places);

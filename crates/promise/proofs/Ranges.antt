@@ -1,6 +1,6 @@
 -- The ranges that make a device proper, part by part. Assumes nothing.
 use mathlib.Core.Path.{_≡_, refl, sym}
-use mathlib.Core.Bool.{Bool, true, false, and-assoc, and-true}
+use mathlib.Core.Bool.{Bool, true, false, and-assoc}
 use mathlib.Core.List.{List, [], _∷_}
 use Prim.Native.Nat.{ℕ, zero, suc, _/_, _<_, _≤_}
 use native.Mathlib.Omega.{arith}
@@ -60,7 +60,7 @@ pub proper-same : (d : Device) → proper d ≡ inRangeOf d
 unfolding proper registersInRange sendingInRange actingInRange inRange inRangeOf
 proper-same d =
     rw (runs-fit (d .sending) (d .tx .count), ← mode-named (d .regs .ctrl0))
-    (simp (and-assoc, and-true))
+    (simp and-assoc)
 
 -- One range for each part, in this order: a change of other parts leaves it as it is.
 abbrev pub Ranges : Fifo → Fifo → Fifo → ℕ → ℕ → ℕ → ℕ → ℕ → ℕ → ℕ → Type 0
@@ -83,6 +83,27 @@ InRange d =
 pub ranges-proper : (d : Device) → InRange d → proper d ≡ true
 unfolding proper registersInRange sendingInRange actingInRange
 ranges-proper d h = rw (h .0, h .1, h .2, h .4, h .5, h .6, h .3, h .7, h .8)
+
+pub proper-ranges : (d : Device) → proper d ≡ true → InRange d
+unfolding proper registersInRange sendingInRange actingInRange
+proper-ranges d ok =
+    let tx-on = and-right (inRange (d .rx)) _ ok in
+    let history-on = and-right (inRange (d .tx)) _ tx-on in
+    let registers-on = and-right (inRange (d .history)) _ history-on in
+    let registers = and-left (registersInRange (d .regs)) _ registers-on in
+    let mtag-on = and-right (leb (d .regs .errs) 31) _ registers in
+    let groups-on = and-right (registersInRange (d .regs)) _ registers-on in
+    let sending-on = and-right (leb (d .counters .groups) 128) _ groups-on in (
+      and-left (inRange (d .rx)) _ ok,
+      and-left (inRange (d .tx)) _ tx-on,
+      and-left (inRange (d .history)) _ history-on,
+      and-left (leb (d .counters .groups) 128) _ groups-on,
+      and-left (leb (d .regs .errs) 31) _ registers,
+      and-left (leb (d .regs .mtag) 3) _ mtag-on,
+      and-right (leb (d .regs .mtag) 3) _ mtag-on,
+      and-left (sendingInRange d) _ sending-on,
+      and-right (sendingInRange d) _ sending-on,
+    )
 
 -- ---- queues
 

@@ -28,12 +28,12 @@ use Rattle.refused.specs.Refused.{readsMessage, findsNone}
 use Rattle.shown.specs.Shown.{padded, cut, register, shows}
 use Rattle.promise.specs.Frames.{message}
 use Rattle.promise.specs.Ledger.{oldest}
+use Rattle.promise.specs.Held.{Banked, Entry, entryOf}
 use Rattle.promise.specs.Records.{Records}
 use Rattle.promise.specs.Registers.{statf, tstat, messtat, err, intf, replies, shown}
 use Rattle.promise.specs.Settings.{Settings, settingsOf, patterns, enables}
 use Rattle.promise.proofs.Among.{_and_}
-use Rattle.promise.proofs.Banks.{Banked}
-use Rattle.promise.proofs.Boxes.{Entry, entryOf, rests-same, queue-length, history-length}
+use Rattle.promise.proofs.Boxes.{rests-same, queue-length, history-length}
 use Rattle.promise.proofs.Each.{each-at}
 use Rattle.promise.proofs.Kept.{Kept}
 use Rattle.promise.proofs.Queues.{Sized, message-sized, left-waits, oldest-next}

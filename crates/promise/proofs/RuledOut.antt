@@ -1,6 +1,6 @@
 -- No wrong device keeps its promise. Assumes nothing.
 use mathlib.Core.Path.{_≡_, refl, sym, _∙_, ap}
-use mathlib.Core.Bool.{Bool, true, false, false≢true}
+use mathlib.Core.Bool.{Bool, true, false, not, false≢true}
 use mathlib.Core.List.{List, [], _∷_, _++_, map}
 use Prim.Native.Nat.{ℕ}
 use borrow.Author.Tests.{eqb-false}
@@ -10,36 +10,41 @@ use Rattle.fifo.specs.declared.Message.{Message}
 use Rattle.frame.specs.Received.{received}
 use Rattle.frame.specs.Tables.{idBits, idAsRead}
 use Rattle.base.specs.Bit.{byte}
-use Rattle.base.specs.Pick.{pick}
+use Rattle.base.specs.Pick.{pick, flag}
+use Rattle.bus.specs.Pins.{pins}
 use Rattle.chip.specs.declared.Device.{Device}
 use Rattle.chip.specs.State.{fresh}
-use Rattle.promise.specs.Sequence.{Input, spi, wire, Given, Step, shipped, number, run}
+use Rattle.promise.specs.Sequence.{Input, spi, wire, Given, replied, answered, Step, shipped, number, run}
 use Rattle.promise.specs.Frames.{Frame, blank, message, identifierRead}
-use Rattle.promise.specs.Numbers.{First, Refused, Untouched, numberGiven}
+use Rattle.promise.specs.Numbers.{Fits, Answered, First, Refused, Untouched, numberGiven}
 use Rattle.promise.specs.Outbox.{Running, none, first, alone}
-use Rattle.promise.specs.Recorded.{Due, Each, Runs, recorded, Answers, Settled, Counted, Timed, Seen, Raised, Pinned, Whole, AsArrived, Sent, Same}
+use Rattle.promise.specs.Due.{Due}
+use Rattle.promise.specs.Held.{Each, Runs, Settled, Counted, Timed, Seen, Raised, Pinned, Whole, AsArrived, Sent}
+use Rattle.promise.specs.After.{recorded, After, Answers, Same, Onward}
 use Rattle.promise.specs.Records.{Records}
-use Rattle.promise.specs.Written.{kept}
-use Rattle.promise.proofs.Cases.{Case, lost, undue, unsettled, miscounted, mistimed, unseen, unraised, unsent, unlike, misshown, misread}
-use Rattle.promise.proofs.Cases.{misjudged, changing, cases}
+use Rattle.promise.specs.Own.{kept}
+use Rattle.promise.proofs.Cases.{Case, lost, undue, unsettled, miscounted, mistimed, unseen, unraised, unsent, unlike, misshown, unlikeItself}
+use Rattle.promise.proofs.Cases.{misjudged, misanswered, changing, astray, cases}
 use Rattle.promise.proofs.Queues.{Shown}
-use Rattle.promise.proofs.Sides.{alike, alike-self, allBytes, counts, settingBytes, levels, numbers, numbersDue, buffered, runningBytes, sides, differ}
+use Rattle.promise.proofs.Sides.{alike, alike-self, allBytes, counts, settingBytes, levels, numbers, numbersDue, refusal, buffered, runningBytes, sides, differ}
 
 -- the promise that a case breaks
 abbrev pub Promise : Case → Type 0
-Promise (lost w is) = Whole w
-Promise (undue w is i) = Answers w
-Promise (unsettled w is) = Settled w
-Promise (miscounted w is) = Counted w
-Promise (mistimed w is) = Timed w
-Promise (unseen w is) = Seen w
-Promise (unraised w is) = Raised w
-Promise (unsent w is) = Sent w
+Promise (lost w is) = After w Whole
+Promise (undue w is i) = After w (Answers w)
+Promise (unsettled w is) = After w Settled
+Promise (miscounted w is) = After w Counted
+Promise (mistimed w is) = After w Timed
+Promise (unseen w is) = After w Seen
+Promise (unraised w is) = After w Raised
+Promise (unsent w is) = After w Sent
 Promise (unlike w is) = Same w
-Promise (misshown look is) = Pinned shipped look
-Promise (misread w is) = AsArrived w
+Promise (misshown look is) = After shipped (Pinned look)
+Promise (unlikeItself w is) = After w AsArrived
 Promise (misjudged w d i) = First w
+Promise (misanswered w d i) = Answered w
 Promise (changing w d i) = Refused w
+Promise (astray w d r h i) = Onward w pins
 
 -- ---- each promise makes its two sides equal
 
@@ -57,6 +62,13 @@ first-shown : (fs : List Frame) → Each Shown fs
 unfolding received idAsRead idBits
 first-shown [] all = refl
 first-shown (f ∷ fs) all = all .0 .identifier
+
+-- an answer is a refusal exactly if its number is not 0
+fits-refusal : (i : Input) (given : Given) → Fits i given → refusal given ≡ flag (not (eqb (number given) 0))
+fits-refusal (spi bytes buffer) (replied n after) fits = refl
+fits-refusal (spi bytes buffer) (answered a) fits = absurd fits
+fits-refusal (wire e payload) (replied n after) fits = refl
+fits-refusal (wire e payload) (answered a) fits = ap flag fits
 
 -- what a refusal leaves has the same queue
 untouched-count : (d : Device) (i : Input) (s : Step) → Untouched d i s → s .device .rx .count ≡ d .rx .count
@@ -82,9 +94,11 @@ equal (unsent w is) holds =
     (runs-bytes (run w fresh is .sending) (run w fresh is .buffer) (recorded w is .outbox .running) (holds is .1)))
 equal (unlike w is) holds = ap (λ (r : Records). length (r .ledger .accepted) ∷ []) (holds is)
 equal (misshown look is) holds = ap levels (holds is)
-equal (misread w is) holds = first-shown (recorded w is .ledger .accepted) (holds is .1)
+equal (unlikeItself w is) holds = first-shown (recorded w is .ledger .accepted) (holds is .1)
 equal (misjudged w d i) holds = ap (λ n. n ∷ []) (holds d i)
+equal (misanswered w d i) holds = ap (λ n. n ∷ []) (fits-refusal i (w d i .given) (holds d i .1))
 equal (changing w d i) holds = ap (λ n. n ∷ []) (left-count (eqb (numberGiven w d i) 0) d i (w d i) refl (holds d i))
+equal (astray w d r h i) holds = given-due r i (w d i .given) (holds d r h .1 i)
 
 -- ---- and in no case are they
 

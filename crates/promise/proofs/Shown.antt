@@ -1,6 +1,6 @@
 -- A frame whose header is possible shows its fields in its sixteen bytes. Assumes nothing.
 use mathlib.Core.Path.{_≡_, refl, sym, _∙_, ap}
-use mathlib.Core.Bool.{Bool, true, false}
+use mathlib.Core.Bool.{Bool, true, false, _&&_, and-assoc}
 use mathlib.Core.List.{List, [], _∷_, _++_, map}
 use Prim.Native.Nat.{ℕ, zero, suc, pred, _+_, _-_, _*_, _/_, _%_, _^_, _<_, _≤_, min}
 use native.Mathlib.Nat.{add-zero, div-one, mod-eq-of-lt}
@@ -12,15 +12,15 @@ use lib.Seq.{getD-take, getD-drop}
 use Rattle.base.specs.Bit.{bits, byte}
 use Rattle.base.specs.Pick.{pick, flag}
 use Rattle.frame.specs.declared.Header.{Header}
-use Rattle.frame.specs.Length.{possible, dataBytes, dataLength, dataOf}
+use Rattle.frame.specs.Length.{possible, dataFits, dataBytes, dataLength, dataOf}
 use Rattle.frame.specs.Received.{received}
 use Rattle.frame.specs.Tables.{idBits, idAsRead, compared as comparedBy}
 use Rattle.frame.proofs.Parts.{id-fits, code-fits}
 use Rattle.frame.proofs.ReadBack.{data-back}
 use Rattle.promise.specs.Filters.{compared}
-use Rattle.promise.specs.Frames.{Frame, blank, message, dataCount, dataByte, identifierIn, Shows}
+use Rattle.promise.specs.Frames.{Frame, blank, message, dataCount, canArrive, dataByte, identifierIn, Shows}
 
--- ---- how many data bytes a frame has
+-- ---- how many data bytes a frame has, and whether it can arrive
 
 least-eight : (t : Bool) (code : ℕ) → leb code 8 ≡ t → pick t code 8 ≡ min code 8
 least-eight true code few = omega (arith, leb-true code 8 few)
@@ -29,6 +29,10 @@ least-eight false code many = omega (arith, leb-false code 8 many)
 pub count-same : (h : Header) → dataBytes h ≡ dataCount h
 unfolding dataBytes dataLength
 count-same h = ap (λ (n : ℕ). pick (h .remote) 0 n) (least-eight (leb (h .code) 8) (h .code) refl)
+
+pub arrives-same : (h : Header) (count : ℕ) → (possible h && dataFits h count) ≡ canArrive h count
+unfolding possible dataFits
+arrives-same h count = rw (count-same h) (simp and-assoc)
 
 -- ---- its data
 

@@ -1,6 +1,6 @@
 -- The two sides of the promise that each wrong device breaks, in numbers, computed in one table. Assumes nothing.
 use mathlib.Core.Path.{_≡_, refl}
-use mathlib.Core.Bool.{Bool, true, false, _&&_}
+use mathlib.Core.Bool.{Bool, true, false, not, _&&_}
 use mathlib.Core.List.{List, [], _∷_, _++_, map}
 use Prim.Native.Nat.{ℕ, _%_}
 use borrow.Author.Tests.{eq-eqb}
@@ -46,10 +46,11 @@ use Rattle.promise.specs.Ranges
 use Rattle.promise.specs.Flags.{together}
 use Rattle.promise.specs.Frames.{blank, message, identifierRead}
 use Rattle.promise.specs.Numbers
-use Rattle.promise.specs.Numbers.{situation, numberDue, numberGiven}
+use Rattle.promise.specs.Numbers.{situation, numberDue, refuses, numberGiven}
 use Rattle.promise.specs.Outbox.{Running, none, first, alone}
-use Rattle.promise.specs.Written.{kept}
-use Rattle.promise.specs.Recorded.{situationOf, filled, recorded}
+use Rattle.promise.specs.Own.{kept}
+use Rattle.promise.specs.Due.{situationOf, filled}
+use Rattle.promise.specs.After.{recorded}
 use Rattle.promise.specs.Noted
 use Rattle.promise.specs.Arrivals.{valuesDue}
 use Rattle.promise.specs.Noted.{recordsBy, byTheAnswers}
@@ -58,8 +59,8 @@ use Rattle.promise.specs.Registers
 use Rattle.promise.specs.Registers.{shown, pinsShown}
 use Rattle.promise.specs.Settings
 use Rattle.promise.specs.Settings.{Settings, settingsOf}
-use Rattle.promise.proofs.Cases.{Case, lost, undue, unsettled, miscounted, mistimed, unseen, unraised, unsent, unlike, misshown, misread}
-use Rattle.promise.proofs.Cases.{misjudged, changing, cases}
+use Rattle.promise.proofs.Cases.{Case, lost, undue, unsettled, miscounted, mistimed, unseen, unraised, unsent, unlike, misshown, unlikeItself}
+use Rattle.promise.proofs.Cases.{misjudged, misanswered, changing, astray, cases}
 
 -- ---- lists of numbers that differ
 
@@ -82,11 +83,11 @@ allBytes (m ∷ ms) = m .bytes ++ allBytes ms
 abbrev pub counts : Counters → List ℕ
 counts c = c .rec ∷ c .tec ∷ c .groups ∷ []
 
--- CTRL0, CTRL1, the mode that acts, and the patterns
 abbrev pub joined : List (List ℕ) → List ℕ
 joined [] = []
 joined (p ∷ ps) = p ++ joined ps
 
+-- CTRL0, CTRL1, the mode that acts, and the filters
 abbrev pub settingBytes : Settings → List ℕ
 settingBytes s = s .ctrl0 ∷ s .ctrl1 ∷ s .acting ∷ joined (s .filters)
 
@@ -109,6 +110,11 @@ numbersDue r (spi bytes buffer) =
 numbersDue r (wire e payload) =
     let n = numberDue (situationOf r) (wire e payload) in
     n ∷ pick (eqb n 0) (valuesDue r e payload) []
+
+-- whether an answer is a refusal
+abbrev pub refusal : Given → ℕ
+refusal (replied n buffer) = flag (not (eqb n 0))
+refusal (answered a) = flag (refuses a)
 
 -- the transmit buffer while a message runs, and that message
 abbrev pub buffered : Message → Running → List ℕ
@@ -142,12 +148,14 @@ sides (unlike w is) = (
   length (recorded w is .ledger .accepted) ∷ [],
 )
 sides (misshown look is) = (levels (look (run shipped fresh is)), levels (pinsShown (recorded shipped is)))
-sides (misread w is) = (
+sides (unlikeItself w is) = (
   map (byte (message (getD (recorded w is .ledger .accepted) 0 blank) .bytes)) (4 ∷ 5 ∷ 6 ∷ 7 ∷ []),
   identifierRead ((getD (recorded w is .ledger .accepted) 0 blank) .header),
 )
 sides (misjudged w d i) = (numberGiven w d i ∷ [], numberDue (situation d) i ∷ [])
+sides (misanswered w d i) = (refusal (w d i .given) ∷ [], flag (not (eqb (number (w d i .given)) 0)) ∷ [])
 sides (changing w d i) = (pick (eqb (numberGiven w d i) 0) (d .rx .count) (w d i .device .rx .count) ∷ [], d .rx .count ∷ [])
+sides (astray w d r holds i) = (numbers i (w d i .given), numbersDue r i)
 
 pub differ : map (λ c. alike (sides c .0) (sides c .1)) cases ≡ replicate (length cases) false
 unfolding Transfer.transfer Transfer.replyAfter Refused.lengthFits Refused.setsUp Refused.outsideSetUp Refused.findsFull Refused.readsMessage

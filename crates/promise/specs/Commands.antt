@@ -7,7 +7,7 @@ use lib.Dec.{eqb, leb}
 use lib.ListN.{length, drop}
 use Rattle.base.specs.Bit.{byte}
 use Rattle.base.specs.Pick.{pick, among}
-use Rattle.promise.specs.Written.{messageFits}
+use Rattle.promise.specs.Own.{messageFits}
 
 -- ---- groups of commands
 

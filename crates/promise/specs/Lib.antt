@@ -1,7 +1,8 @@
 pub mod Sequence
+pub mod Calls
 pub mod Frames
 pub mod Filters
-pub mod Written
+pub mod Own
 pub mod Commands
 pub mod Parts
 pub mod Settings
@@ -15,7 +16,9 @@ pub mod Noted
 pub mod Registers
 pub mod Ranges
 pub mod Numbers
-pub mod Recorded
+pub mod Due
+pub mod Held
+pub mod After
 pub mod Worked
 pub mod Wrong
 pub mod WrongRegisters

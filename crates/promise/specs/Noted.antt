@@ -23,7 +23,7 @@ use Rattle.promise.specs.Settings.{settingWrites, asksReset, wakeup, bor
 use Rattle.promise.specs.Counting.{recUp, frameHeard, tecUp, tecDown, unlessMonitor, groupMet, recWritten, tecWritten}
 use Rattle.promise.specs.Flags.{rxtmp, rxfifo, txcplt, buserr, mchg, wakeupFlag, f1mess, f0mess, kindBit, raise}
 use Rattle.promise.specs.Ledger.{cleared, accepts, takes}
-use Rattle.promise.specs.Written.{messageWritten}
+use Rattle.promise.specs.Own.{messageWritten}
 use Rattle.promise.specs.Outbox.{emptied, queued, begun, halted, clearedOut, sent, entryTaken, rests}
 
 -- ---- modes and resets

@@ -14,8 +14,10 @@ use Rattle.events.specs.declared.Event.{Event}
 use Rattle.events.specs.declared.Event.the-variants.{GoodFrame, ReceiveError, DominantBit, TransmitError, Begun, Completed}
 use Rattle.events.specs.declared.Event.the-variants.{ArbitrationLost, ElevenRecessive, BusQuiet, BusActivity, Ticks, TxenPin, MrPin}
 use Rattle.events.specs.declared.Event.the-variants.{Unknown}
-use Rattle.judged.specs.declared.Answer.the-variants.{Refused as RefusedEvent}
-use Rattle.promise.specs.Sequence.{Input, spi, wire, replied, answered, Step, Machine, number, run}
+use Rattle.bus.specs.Event.{numberOf}
+use Rattle.judged.specs.declared.Answer.{Answer}
+use Rattle.judged.specs.declared.Answer.the-variants.{Refused as RefusedEvent, Done, Arrived}
+use Rattle.promise.specs.Sequence.{Input, spi, wire, Given, replied, answered, Step, Machine, number, run}
 use Rattle.promise.specs.Commands.{messageReads, setsUp, sameFor, isCommand, lengthsOf, rightLength}
 use Rattle.promise.specs.Frames.{canArrive}
 use Rattle.promise.specs.Ranges.{inRange}
@@ -33,7 +35,7 @@ pub record Situation : Type 0 where
   pub runs : Bool
   -- messages in the transmit FIFO, messages in the receive FIFO, entries in the history
   pub toSend : ℕ
-  pub waiting : ℕ
+  pub toRead : ℕ
   pub entries : ℕ
 
 abbrev pub situation : Device → Situation
@@ -44,7 +46,7 @@ situation d = record {
   enabled = enables (d .regs .ctrl1) (d .txenpin);
   runs = not (eqb (d .sending) idle);
   toSend = d .tx .count;
-  waiting = d .rx .count;
+  toRead = d .rx .count;
   entries = d .history .count;
 }
 
@@ -83,7 +85,7 @@ isEmpty bytes = eqb (length bytes) 0
 
 -- 7: "a receive FIFO or history read finds none"
 unfoldable pub findsNone : Situation → ℕ → Bool
-findsNone s c = among c (sameFor messageReads (eqb (s .waiting) 0) ++ (0xEE, eqb (s .entries) 0) ∷ []) false
+findsNone s c = among c (sameFor messageReads (eqb (s .toRead) 0) ++ (0xEE, eqb (s .entries) 0) ∷ []) false
 
 -- 01's rows, in its order: whether the row of number n says so
 abbrev pub row : Situation → Input → ℕ → Bool
@@ -112,6 +114,18 @@ numberDue s i = firstFrom (row s i) 1 8
 
 -- ---- the promises
 
+abbrev pub refuses : Answer → Bool
+refuses (RefusedEvent n) = true
+refuses Done = false
+refuses (Arrived what) = false
+
+-- a transfer is replied to and an event answered, as refused exactly if the number is not 0
+abbrev pub Fits : Input → Given → Type 0
+Fits (spi bytes buffer) (replied n after) = Unit {0}
+Fits (spi bytes buffer) (answered a) = ⊥
+Fits (wire e payload) (replied n after) = ⊥
+Fits (wire e payload) (answered a) = refuses a ≡ not (eqb (numberOf a) 0)
+
 -- what a refusal leaves: the device as it came, the lent buffer as it came, and nothing given but the number
 abbrev pub Untouched : Device → Input → Step → Type 0
 Untouched d (spi bytes buffer) s = s ≡ record { device = d; given = replied (number (s .given)) buffer }
@@ -121,9 +135,9 @@ module _ (step : Machine) where
   abbrev pub numberGiven : Device → Input → ℕ
   numberGiven d i = number (step d i .given)
 
-  -- Every input in every device is answered by one of 01's numbers.
+  -- Every input in every device is answered, by one of 01's numbers.
   abbrev pub Answered : Type 0
-  Answered = (d : Device) (i : Input) → numberGiven d i ≤ 8
+  Answered = (d : Device) (i : Input) → (numberGiven d i ≤ 8) × Fits i (step d i .given)
 
   -- The number is the lowest whose row says so, and 0 if none does.
   abbrev pub First : Type 0

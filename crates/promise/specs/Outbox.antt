@@ -5,7 +5,7 @@ use Prim.Native.Nat.{ℕ, _/_, _%_}
 use lib.Dec.{leb}
 use lib.ListN.{length, getD, drop}
 use Rattle.base.specs.Pick.{pick}
-use Rattle.promise.specs.Written.{Own, noMessage}
+use Rattle.promise.specs.Own.{Own, noMessage}
 
 pub data Running : Type 0 where
   none : Running

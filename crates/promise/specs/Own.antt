@@ -1,4 +1,5 @@
 -- The message that 0x12 brings, read from the bytes after the command (01, Transfers; 000, Table 2).
+use mathlib.Core.Path.{_≡_}
 use mathlib.Core.Bool.{Bool, true, false, _&&_}
 use mathlib.Core.List.{List, _∷_, _++_}
 use Prim.Native.Nat.{ℕ, _+_, _*_, _/_, _%_, _^_}
@@ -9,7 +10,7 @@ use Rattle.base.specs.Pick.{pick}
 use Rattle.base.specs.Tabulate.{tabulate}
 use Rattle.fifo.specs.declared.Message.{Message}
 use Rattle.frame.specs.declared.Header.{Header}
-use Rattle.promise.specs.Frames.{blankHeader, dataCount, dataByte, identifierRead}
+use Rattle.promise.specs.Frames.{blankHeader, dataCount, canArrive, dataByte, identifierRead}
 
 pub record Own : Type 0 where
   pub tag : ℕ
@@ -66,3 +67,7 @@ messageWritten s = record {
 -- As the transmit FIFO keeps it, in Table 5's places: the tag for byte 1, and no time yet.
 abbrev pub kept : Own → Message
 kept m = record { bytes = m .tag ∷ 0 ∷ 0 ∷ identifierRead (m .header) ++ m .header .code ∷ m .eight }
+
+-- one that can have come by 0x12: a header that can be, and zeros behind its data
+abbrev pub Sendable : Own → Type 0
+Sendable m = (canArrive (m .header) (dataCount (m .header)) ≡ true) × (tabulate (dataByte (m .header) (m .eight)) 1 8 ≡ m .eight)

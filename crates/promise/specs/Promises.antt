@@ -1,10 +1,18 @@
 -- What is promised of the device that is shipped: a line for each promise, which the file named above its group says in
 -- full. docs/PROMISES.md tells them in plain words.
 use Rattle.bus.specs.Pins.{pins}
+use Rattle.chip.specs.State.{fresh}
 use Rattle.promise.specs.Sequence.{shipped}
+use Rattle.promise.specs.Calls.{IsTheCode}
 use Rattle.promise.specs.Numbers.{Answered, First, Exactly, Refused, NeverOne}
-use Rattle.promise.specs.Recorded.{Answers, Settled, Counted, Timed, Seen, Raised, Pinned, Whole, AsArrived, Sent, Same}
+use Rattle.promise.specs.Held.{Settled, Counted, Timed, Seen, Raised, Pinned, Whole, AsArrived, Sent}
+use Rattle.promise.specs.After.{After, Answers, Same, Onward}
 use Rattle.promise.specs.Worked.{Worked}
+
+-- ---- what they speak of (Calls)
+
+abbrev pub TheMachineIsTheCode : Type 2
+TheMachineIsTheCode = IsTheCode shipped pins fresh
 
 -- ---- demand 1 (Numbers)
 
@@ -23,40 +31,45 @@ ARefusalChangesNothing = Refused shipped
 abbrev pub OneIsNeverGiven : Type 0
 OneIsNeverGiven = NeverOne shipped
 
--- ---- demands 2 and 3, over sequences (Recorded)
+-- ---- demands 2 and 3, over every sequence (Due, Held, After)
 
 abbrev pub EachAnswerIsDue : Type 0
-EachAnswerIsDue = Answers shipped
+EachAnswerIsDue = After shipped (Answers shipped)
 
 abbrev pub SettingsAreThoseWritten : Type 0
-SettingsAreThoseWritten = Settled shipped
+SettingsAreThoseWritten = After shipped Settled
 
 abbrev pub CountersAreTheRulesSum : Type 0
-CountersAreTheRulesSum = Counted shipped
+CountersAreTheRulesSum = After shipped Counted
 
 abbrev pub TheTimeTagIsTheTicks : Type 0
-TheTimeTagIsTheTicks = Timed shipped
+TheTimeTagIsTheTicks = After shipped Timed
 
 abbrev pub ErrIsTheKindsSeen : Type 0
-ErrIsTheKindsSeen = Seen shipped
+ErrIsTheKindsSeen = After shipped Seen
 
 abbrev pub IntfIsTheFlagsRaised : Type 0
-IntfIsTheFlagsRaised = Raised shipped
+IntfIsTheFlagsRaised = After shipped Raised
 
 abbrev pub PinsShowTheRecords : Type 0
-PinsShowTheRecords = Pinned shipped pins
+PinsShowTheRecords = After shipped (Pinned pins)
 
 abbrev pub NoFrameIsLost : Type 0
-NoFrameIsLost = Whole shipped
+NoFrameIsLost = After shipped Whole
 
 abbrev pub FieldsStandAsTheyArrived : Type 0
-FieldsStandAsTheyArrived = AsArrived shipped
+FieldsStandAsTheyArrived = After shipped AsArrived
 
 abbrev pub OwnMessagesAreThoseWritten : Type 0
-OwnMessagesAreThoseWritten = Sent shipped
+OwnMessagesAreThoseWritten = After shipped Sent
 
 abbrev pub TheAnswersKeepTheRecords : Type 0
 TheAnswersKeepTheRecords = Same shipped
+
+-- ---- and in any device (After)
+
+abbrev pub AnyDeviceGoesOnSo : Type 0
+AnyDeviceGoesOnSo = Onward shipped pins
 
 -- ---- 01's worked numbers (Worked)
 

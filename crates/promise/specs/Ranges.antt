@@ -1,13 +1,12 @@
 -- 1: "the state handed in has a count, place or field outside its range" (01, Numbers given back; docs/DECISIONS.md, 41).
 use mathlib.Core.Bool.{Bool, true, false, _&&_, _||_}
-use mathlib.Core.List.{List, [], _∷_}
+use mathlib.Core.List.{[], _∷_}
 use Prim.Native.Nat.{ℕ}
 use lib.Dec.{eqb, leb, ltb}
 use Rattle.base.specs.Pick.{pick, among}
 use Rattle.fifo.specs.declared.Fifo.{Fifo}
 use Rattle.chip.specs.declared.Device.{Device}
 use Rattle.chip.specs.State.{idle, firstInFifo, alone}
-use Rattle.promise.specs.Filters.{all}
 use Rattle.promise.specs.Settings.{sleep, initialization, modeNamed}
 
 -- eight places, and at most eight messages
@@ -29,14 +28,12 @@ actsFit acting ctrl0 = pick (eqb (modeNamed ctrl0) sleep) (leb acting initializa
 -- ERR has five bits of its own, MTAG two. Every other field may hold what its type can, and so may a message's bytes.
 unfoldable pub inRange : Device → Bool
 inRange d =
-    all (λ fits. fits)
-    (queueFits (d .rx) ∷
-    queueFits (d .tx) ∷
-    queueFits (d .history) ∷
-    leb (d .regs .errs) 0b11111 ∷
-    leb (d .regs .mtag) 0b11 ∷
-    filhitFits (d .regs .filhit) ∷
-    leb (d .counters .groups) 128 ∷
-    runsFit (d .sending) (d .tx .count) ∷
-    actsFit (d .acting) (d .regs .ctrl0) ∷
-    [])
+    queueFits (d .rx) &&
+    (queueFits (d .tx) &&
+    (queueFits (d .history) &&
+    (leb (d .regs .errs) 0b11111 &&
+    (leb (d .regs .mtag) 0b11 &&
+    (filhitFits (d .regs .filhit) &&
+    (leb (d .counters .groups) 128 &&
+    (runsFit (d .sending) (d .tx .count) &&
+    actsFit (d .acting) (d .regs .ctrl0))))))))

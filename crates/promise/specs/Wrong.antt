@@ -2,9 +2,9 @@
 -- which it breaks its promise.
 use mathlib.Core.Bool.{Bool, not, _&&_, _||_}
 use mathlib.Core.List.{List, [], _∷_, _++_, map}
-use Prim.Native.Nat.{ℕ, min}
+use Prim.Native.Nat.{ℕ, _+_, _-_, _%_, min}
 use lib.Dec.{eqb, ltb}
-use lib.ListN.{length, drop, take as firstOf}
+use lib.ListN.{length, getD, set, drop, take as firstOf}
 use Rattle.base.specs.Bit.{byte, isSet}
 use Rattle.base.specs.Pick.{pick, among}
 use Rattle.fifo.specs.declared.Fifo.{Fifo}
@@ -12,8 +12,8 @@ use Rattle.fifo.specs.declared.Message.{Message}
 use Rattle.fifo.specs.Queue.{empty, none, isEmpty, full, take}
 use Rattle.chip.specs.declared.Device.{Device}
 use Rattle.chip.specs.declared.Registers.{Registers}
-use Rattle.chip.specs.State.{idle, firstInFifo, alone}
-use Rattle.chip.specs.Parts.{with-rx, with-tx, with-temp, with-buffer, with-regs}
+use Rattle.chip.specs.State.{loopback, idle, firstInFifo, alone}
+use Rattle.chip.specs.Parts.{with-rx, with-tx, with-temp, with-buffer, with-regs, with-intf}
 use Rattle.receive.specs.declared.Arrival.{Arrival}
 use Rattle.receive.specs.declared.Arrival.the-variants.{Queued, A1, A2, A3, A4, A5}
 use Rattle.judged.specs.declared.Answer.the-variants.{Refused, Done, Arrived}
@@ -35,16 +35,21 @@ butTransfers change d (wire e payload) = shipped d (wire e payload)
 
 -- in the transfer that it takes one for
 abbrev pub taking : (List ℕ → List ℕ) → Machine
-taking misread d (spi bytes buffer) = shipped d (spi (misread bytes) buffer)
-taking misread d (wire e payload) = shipped d (wire e payload)
+taking another d (spi bytes buffer) = shipped d (spi (another bytes) buffer)
+taking another d (wire e payload) = shipped d (wire e payload)
 
--- in the device that a transfer's reply is drawn from
-abbrev pub replying : (Device → Device) → Machine
-replying draw d (spi bytes buffer) = record {
+-- in what an event makes of it
+abbrev pub butEvents : (Device → Input → Step → Step) → Machine
+butEvents change d (spi bytes buffer) = shipped d (spi bytes buffer)
+butEvents change d (wire e payload) = change d (wire e payload) (shipped d (wire e payload))
+
+-- in the device that the reply of these commands is drawn from
+abbrev pub replying : List ℕ → (Device → Device) → Machine
+replying commands draw d (spi bytes buffer) = record {
   device = shipped d (spi bytes buffer) .device;
-  given = replied (number (shipped d (spi bytes buffer) .given)) (replyAfter (draw d) bytes buffer);
+  given = replied (number (shipped d (spi bytes buffer) .given)) (replyAfter (pick (oneOf (byte bytes 1) commands) (draw d) d) bytes buffer);
 }
-replying draw d (wire e payload) = shipped d (wire e payload)
+replying commands draw d (wire e payload) = shipped d (wire e payload)
 
 abbrev pub with-device : Step → Device → Step
 with-device s d = record { device = d; given = s .given }
@@ -62,18 +67,18 @@ with-registers s v = with-device s (with-regs (s .device) v)
 abbrev pub tells : ℕ → Given → Bool
 tells n given = eqb (length (values given)) 1 && eqb (byte (values given) 1) n
 
--- a message was sent: the history has an entry more
-abbrev pub completes : Device → Step → Bool
-completes d s = ltb (d .history .count) (s .device .history .count)
+-- a message was sent: TXCPLT rises
+abbrev pub completes : Device → Input → Bool
+completes d i = isSet 5 (shipped (with-regs d (with-intf (d .regs) 0)) i .device .regs .intf)
 
--- 0x56, or a write of RESET, was done
+-- the host reset the device, by 0x56 or RESET
 abbrev pub resetDone : List ℕ → Step → Bool
 resetDone bytes s = done (s .given) && (eqb (byte bytes 1) 0x56 || (eqb (byte bytes 1) 0x14 && asksReset (byte bytes 2)))
 
--- the command byte exchanged for another, by pairs
-abbrev pub misread : List (ℕ × ℕ) → List ℕ → List ℕ
-misread pairs [] = []
-misread pairs (c ∷ bytes) = among c pairs c ∷ bytes
+-- the command byte taken for another, by pairs
+abbrev pub takenFor : List (ℕ × ℕ) → List ℕ → List ℕ
+takenFor pairs [] = []
+takenFor pairs (c ∷ bytes) = among c pairs c ∷ bytes
 
 -- ---- queue and answers
 
@@ -81,9 +86,15 @@ misread pairs (c ∷ bytes) = among c pairs c ∷ bytes
 abbrev pub onlyFirst : Machine
 onlyFirst = but (λ d i s. pick (tells 0 (s .given) && not (isEmpty (d .rx))) (with-queue s (d .rx)) s)
 
--- 01: "one that answers A5 at leisure": whenever the time tag is odd
+-- 01: "one that answers A5 at leisure": whenever the time tag is odd, as if eight were waiting
+abbrev pub crowded : Device → Device
+crowded d = with-rx d (record { items = d .rx .items; first = d .rx .first; count = 8 })
+
 abbrev pub leisurely : Machine
-leisurely = but (λ d i s. pick (tells 0 (s .given) && isSet 0 (d .time)) (with-given (with-queue s (d .rx)) (answered (Arrived A5))) s)
+leisurely =
+    but (λ d i s.
+    let told : Step = shipped (crowded d) i in
+    pick (isSet 0 (d .time) && tells 5 (told .given)) (with-queue told (d .rx)) s)
 
 -- 01: "The room test is made before the filters, so a stranger's frame is answered A5."
 abbrev pub roomFirst : Machine
@@ -117,6 +128,16 @@ boast (answered (Arrived what)) = answered (Arrived what)
 abbrev pub ghost : Machine
 ghost = but (λ d i s. with-given s (boast (s .given)))
 
+-- one that answers as refused what it has done, with 0
+abbrev pub denial : Given → Given
+denial (replied n buffer) = replied n buffer
+denial (answered (Refused n)) = answered (Refused n)
+denial (answered Done) = answered (Refused 0)
+denial (answered (Arrived what)) = answered (Arrived what)
+
+abbrev pub deniesDone : Machine
+deniesDone = but (λ d i s. with-given s (denial (s .given)))
+
 -- one that says Queued where 8 is due: of a frame that can't be, too
 abbrev pub believesAll : Machine
 believesAll = but (λ d i s. pick (eqb (number (s .given)) 8) (with-given s (answered (Arrived Queued))) s)
@@ -140,14 +161,20 @@ clipped m = record { bytes = firstOf 7 (m .bytes) ++ min (byte (m .bytes) 8) 8 �
 abbrev pub codeClipped : Machine
 codeClipped = but (λ d i s. with-queue s (rewritten clipped (s .device .rx)))
 
--- one that keeps the payload's bytes behind those that the frame has
+-- one that keeps a bus frame's payload whole in the newest message, with the bytes behind those that the frame has
+abbrev pub behindIn : Fifo → List ℕ → Fifo
+behindIn q payload =
+    let newest = (q .first + q .count - 1) % 8 in
+    let m : Message = getD (q .items) newest none in
+    record { items = set (q .items) newest (record { bytes = firstOf 8 (m .bytes) ++ payload }); first = q .first; count = q .count }
+
 abbrev pub keepsBehind : Machine
 keepsBehind d (spi bytes buffer) = shipped d (spi bytes buffer)
 keepsBehind d (wire e payload) =
     let s : Step = shipped d (wire e payload) in
-    pick (tells 0 (s .given)) (with-queue s (rewritten (λ m. record { bytes = firstOf 8 (m .bytes) ++ payload }) (s .device .rx))) s
+    pick (tells 0 (s .given) && not (eqb (d .acting) loopback)) (with-queue s (behindIn (s .device .rx) payload)) s
 
--- a reset that keeps the queue, and a mode write that clears it
+-- a host's reset that keeps the queue, and a mode write that clears it
 abbrev pub resetKeeps : Machine
 resetKeeps = butTransfers (λ d bytes s. pick (resetDone bytes s) (with-queue s (d .rx)) s)
 
@@ -162,7 +189,7 @@ strangersUnseen = but (λ d i s. pick (tells 4 (s .given)) (with-device s (with-
 
 -- 01: "After 0x54 during a transmission, a new message is written and the old completion removes it."
 abbrev pub oldCompletion : Machine
-oldCompletion = but (λ d i s. pick (eqb (d .sending) alone && completes d s) (with-device s (with-tx (s .device) (take (s .device .tx)))) s)
+oldCompletion = but (λ d i s. pick (eqb (d .sending) alone && completes d i) (with-device s (with-tx (s .device) (take (s .device .tx)))) s)
 
 -- one that begins a message without a copy of it: in loopback zeros arrive
 abbrev pub nothingCopied : Machine

@@ -1,11 +1,11 @@
 -- More devices that the promises rule out: in their commands and settings, flags and pins, replies and counters.
-use mathlib.Core.Bool.{_&&_}
+use mathlib.Core.Bool.{true, _&&_, _||_}
 use mathlib.Core.List.{List, [], _∷_}
 use Prim.Native.Nat.{ℕ, _+_, _*_, _/_, _%_}
 use lib.Bits.{bitOr}
 use lib.Dec.{eqb, ltb}
 use lib.ListN.{drop, set, replicate}
-use Rattle.base.specs.Bit.{byte, bit, isSet}
+use Rattle.base.specs.Bit.{byte, bit}
 use Rattle.base.specs.Pick.{pick}
 use Rattle.base.specs.Put.{putOf}
 use Rattle.counters.specs.declared.Counters.{Counters}
@@ -15,26 +15,26 @@ use Rattle.fifo.specs.Queue.{next, take}
 use Rattle.frame.specs.Received.{headerIn, dataIn}
 use Rattle.chip.specs.declared.Device.{Device}
 use Rattle.chip.specs.declared.Registers.{Registers}
-use Rattle.chip.specs.State.{sleep, alone}
+use Rattle.chip.specs.State.{monitor, sleep, alone}
 use Rattle.chip.specs.Parts.{with-rx, with-counters, with-acting, with-regs, with-ctrl0, with-ctrl1, with-errs, with-intf}
 use Rattle.receive.specs.Receive.{message}
 use Rattle.bus.specs.declared.types.Pins.{Pins}
 use Rattle.bus.specs.Pins.{pins}
 use Rattle.promise.specs.Sequence.{spi, wire, Given, replied, answered, Step, Machine, shipped}
-use Rattle.promise.specs.Commands.{lengthsOf}
+use Rattle.promise.specs.Commands.{messageReads, lengthsOf}
 use Rattle.promise.specs.Registers.{share}
 use Rattle.promise.specs.Settings.{modeNamed}
-use Rattle.promise.specs.Wrong.{but, butTransfers, taking, replying, with-device, with-given, with-registers, tells, completes, resetDone, misread}
+use Rattle.promise.specs.Wrong.{but, butTransfers, butEvents, taking, replying, with-device, with-given, with-registers, tells, completes, resetDone, takenFor}
 
 -- ---- commands and settings
 
 -- two commands exchanged: 0x58 clears the receive FIFO, and 0x5A resets the time tag
 abbrev pub commandsExchanged : Machine
-commandsExchanged = taking (misread ((0x58, 0x5A) ∷ (0x5A, 0x58) ∷ []))
+commandsExchanged = taking (takenFor ((0x58, 0x5A) ∷ (0x5A, 0x58) ∷ []))
 
 -- filters 4 to 7 are written into 0 to 3
 abbrev pub filterElsewhere : Machine
-filterElsewhere = taking (misread ((0x6A, 0x62) ∷ (0x6C, 0x64) ∷ (0x6E, 0x66) ∷ (0x72, 0x68) ∷ []))
+filterElsewhere = taking (takenFor ((0x6A, 0x62) ∷ (0x6C, 0x64) ∷ (0x6E, 0x66) ∷ (0x72, 0x68) ∷ []))
 
 -- a sleep that acts before its quiet bus
 abbrev pub sleepsAtOnce : Machine
@@ -43,7 +43,8 @@ sleepsAtOnce = butTransfers (λ d bytes s. pick (eqb (modeNamed (s .device .regs
 -- a wake-up that leaves MODE
 abbrev pub modeStays : Machine
 modeStays =
-    but (λ d i s. pick (eqb (d .acting) sleep && isSet 2 (s .device .regs .intf)) (with-registers s (with-ctrl0 (s .device .regs) (d .regs .ctrl0))) s)
+    butEvents (λ d i s. pick (eqb (d .acting) sleep && eqb (s .device .acting) monitor)
+    (with-registers s (with-ctrl0 (s .device .regs) (d .regs .ctrl0))) s)
 
 -- BOR read from CTRL0's bit 1: to an event bits 1 and 2 are exchanged
 abbrev pub otherBor : Device → Device
@@ -59,7 +60,7 @@ borElsewhere d (wire e payload) =
 
 -- TX1M kept by the completion of a message that 0x54 left alone
 abbrev pub tx1mKept : Machine
-tx1mKept = but (λ d i s. pick (eqb (d .sending) alone && completes d s) (with-registers s (with-ctrl1 (s .device .regs) (d .regs .ctrl1))) s)
+tx1mKept = but (λ d i s. pick (eqb (d .sending) alone && completes d i) (with-registers s (with-ctrl1 (s .device .regs) (d .regs .ctrl1))) s)
 
 -- ---- flags and pins
 
@@ -69,20 +70,21 @@ filtering d = with-regs d (with-ctrl1 (d .regs) (bitOr (d .regs .ctrl1) 0x10))
 
 abbrev pub filtonIgnored : Machine
 filtonIgnored =
-    but (λ d i s. pick (tells 0 (s .given))
+    but (λ d i s. pick (tells 0 (s .given) || tells 5 (s .given))
     (with-registers s (with-intf (s .device .regs) (bitOr (s .device .regs .intf) (shipped (filtering d) i .device .regs .intf % 4)))) s)
 
--- ERR's bits 0 and 1 exchanged when a kind is seen
+-- ERR's bits 0 and 1 exchanged in what an event sets
 abbrev pub errsExchanged : Machine
 errsExchanged =
-    but (λ d i s. pick (ltb (d .regs .errs) (s .device .regs .errs))
-    (let v = s .device .regs .errs in with-registers s (with-errs (s .device .regs) (v / 4 * 4 + bit 0 v * 2 + bit 1 v))) s)
+    butEvents (λ d i s.
+    let set = shipped (with-regs d (with-errs (d .regs) 0)) i .device .regs .errs in
+    with-registers s (with-errs (s .device .regs) (bitOr (d .regs .errs) (set / 4 * 4 + bit 0 set * 2 + bit 1 set))))
 
--- the registers after a reset, as another device would have them
+-- the registers after a host's reset, as another device would have them
 abbrev pub resetting : (Registers → Registers → Registers) → Machine
 resetting keep = butTransfers (λ d bytes s. pick (resetDone bytes s) (with-registers s (keep (d .regs) (s .device .regs))) s)
 
--- a reset that clears ERR, and one that keeps INTF
+-- a host's reset that clears ERR, and one that keeps INTF
 abbrev pub errCleared : Machine
 errCleared = resetting (λ before after. with-errs after 0)
 
@@ -95,9 +97,9 @@ intByStatfe d = record { int = share (d .regs .intf) (d .regs .statfe); stat = p
 
 -- ---- replies
 
--- a read that shows another message's data: the one behind the oldest
+-- a read that shows another message's data: where there is one, that behind the oldest
 abbrev pub showsAnother : Machine
-showsAnother = replying (λ d. with-rx d (take (d .rx)))
+showsAnother = replying messageReads (λ d. pick (ltb 1 (d .rx .count)) (with-rx d (take (d .rx))) d)
 
 -- the oldest message, with byte 1 as the filters would now have it
 abbrev pub hitNow : Device → Message → Message
@@ -106,7 +108,7 @@ hitNow d m = record { bytes = byte (message d (headerIn (m .bytes)) (dataIn (m .
 -- a hit computed at read time
 abbrev pub hitAtRead : Machine
 hitAtRead =
-    replying (λ d. with-rx d (record {
+    replying messageReads (λ d. with-rx d (record {
       items = set (d .rx .items) (d .rx .first % 8) (hitNow d (next (d .rx)));
       first = d .rx .first;
       count = d .rx .count;
@@ -122,11 +124,15 @@ repliesZeros = butTransfers (λ d bytes s. with-given s (blanked bytes (s .given
 
 -- one that counts truly and shows zeros for REC, TEC and the groups
 abbrev pub blind : Machine
-blind = replying (λ d. with-counters d zeroed)
+blind = replying (0xEA ∷ 0xEC ∷ 0xF8 ∷ []) (λ d. with-counters d zeroed)
+
+-- one that shows the groups outside bus off too
+abbrev pub groupsAlways : Machine
+groupsAlways = replying (0xF8 ∷ []) (λ d. with-counters d (record { rec = d .counters .rec; tec = d .counters .tec; busoff = true; groups = d .counters .groups }))
 
 -- one that clears ERR and INTF before it shows them
 abbrev pub clearsFirst : Machine
-clearsFirst = replying (λ d. with-regs d (with-errs (with-intf (d .regs) 0) 0))
+clearsFirst = replying (0xDC ∷ 0xDE ∷ []) (λ d. with-regs d (with-errs (with-intf (d .regs) 0) 0))
 
 -- 01: "a device that refuses each transfer"
 abbrev pub refusesAll : Machine

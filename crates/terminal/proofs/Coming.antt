@@ -26,7 +26,7 @@ use Rattle.promise.specs.Noted.{frameMet, commanded, happened}
 use Rattle.promise.specs.Records.{Records, start, with-settings, with-flags}
 use Rattle.promise.specs.Registers.{intf, pinsShown, share}
 use Rattle.promise.specs.Settings.{Settings, filton, modeNamed, atPowerUp, with-inte, with-mode}
-use Rattle.promise.proofs.Recorded.{pinned}
+use Rattle.promise.proofs.After.{pinned}
 use Rattle.terminal.specs.Terminal.{written, switchedOn, scanner, brought, Listens, Reached, Wakes}
 use Rattle.terminal.proofs.Doing.{further, book, Has, has, given-due, book-more, has-more, book-after, acts, on-now, unfiltered-now, left-now, listens-on}
 

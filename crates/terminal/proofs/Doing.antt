@@ -18,13 +18,14 @@ use Rattle.promise.specs.Commands.{isCommand, lengthsOf, setsUp, rightLength}
 use Rattle.promise.specs.Flags.{together}
 use Rattle.promise.specs.Ledger.{left, oldest, takes}
 use Rattle.promise.specs.Numbers.{findsNone, numberDue}
-use Rattle.promise.specs.Recorded.{Due, situationOf, filled, recorded}
+use Rattle.promise.specs.Due.{Due, situationOf, filled}
+use Rattle.promise.specs.After.{recorded}
 use Rattle.promise.specs.Noted.{noted, byTheRules, commanded}
 use Rattle.promise.specs.Records.{Records, with-flags, with-ledger}
 use Rattle.promise.specs.Registers.{fields, from, statf, intf, shown}
 use Rattle.promise.specs.Settings.{Settings, settingsOf, filton}
 use Rattle.promise.proofs.Steps.{run-more}
-use Rattle.promise.proofs.Recorded.{settled, counted, raised, due, recorded-more, taken-and-left}
+use Rattle.promise.proofs.After.{settled, counted, raised, due, recorded-more, taken-and-left}
 use Rattle.terminal.specs.Terminal.{asked, reply, statusOf, Listens, Reached}
 
 -- the lent buffer, of what a transfer gave

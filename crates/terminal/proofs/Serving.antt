@@ -16,9 +16,9 @@ use Rattle.chip.specs.declared.Device.{Device}
 use Rattle.promise.specs.Sequence.{Input, shipped as step}
 use Rattle.promise.specs.Frames.{Frame, message, dataCount, Shows}
 use Rattle.promise.specs.Ledger.{Ledger, oldest}
-use Rattle.promise.specs.Recorded.{Each}
+use Rattle.promise.specs.Held.{Each}
 use Rattle.promise.specs.Records.{Records}
-use Rattle.promise.proofs.Recorded.{whole, as-arrived}
+use Rattle.promise.proofs.After.{whole, as-arrived}
 use Rattle.terminal.specs.Terminal.{asked, brought, scanRead, scanIn, scans, Listens, Reached, Serves}
 use Rattle.terminal.proofs.Doing.{further, book, askFlags, flags-book, askStatus, status-book, askMessage, message-book, message-reply}
 use Rattle.terminal.proofs.Coming.{comes, scan-book, f}

@@ -16,7 +16,7 @@ use Rattle.bus.specs.Event.{event}
 use Rattle.host.specs.Transfer.{transfer, replyAfter}
 use Rattle.promise.specs.Sequence.{Input, shipped, run}
 use Rattle.promise.specs.Frames.{message}
-use Rattle.promise.specs.Recorded.{recorded}
+use Rattle.promise.specs.After.{recorded}
 use Rattle.promise.specs.Registers.{from}
 use Rattle.promise.specs.Settings.{settingsOf, filton}
 use Rattle.terminal.specs.declared.Status.{Status}

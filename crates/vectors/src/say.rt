@@ -45,10 +45,11 @@ pub(crate) fn say_arrival(what: Arrival) {
     }
 }
 
+// A success by its name, so that it can't be taken for a refusal with 0.
 pub(crate) fn say_answer(a: Answer) {
     match a {
         Answer::Refused(n) => say_number(n),
-        Answer::Done => say_number(0),
+        Answer::Done => say(b" Done"),
         Answer::Arrived(what) => say_arrival(what),
     }
 }
