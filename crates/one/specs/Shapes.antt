@@ -3,7 +3,7 @@
 use mathlib.Core.Path.{_≡_, refl, sym, _∙_, subst}
 use mathlib.Core.List.{List, [], _∷_}
 use Prim.Native.Nat.{ℕ}
-use base.Logic.{SProp, ent, sep, id⊢, via, fst∗, snd∗}
+use base.Logic.{SProp, emp, ent, sep, id⊢, via, fst∗, snd∗}
 use base.Stored.{Coded, coded×}
 use contract.Lifetimes.{Lfts}
 use contract.Monad.{fact, factI, fact-use, fact-mono}
@@ -16,7 +16,7 @@ use denote.Triple.Spec.{Spec}
 use denote.Triple.Clauses.{Ended, closing}
 use Rattle.thin.specs.Shape.{thin-ended, thin-clauses}
 use Rattle.one.specs.Law.{Inputs, Left, Outcome, Model, Stated, Written, stated, made-of}
-use Rattle.one.specs.Law.{Ghost, Ensures, ensures, OneResult, Equates, equates, by-equation}
+use Rattle.one.specs.Law.{Ghost, Ensures, ensures, Asks, asks, AsksNothing, OneResult, Equates, equates, by-equation}
 
 -- ---- a definition as a function of a signature's parameters
 
@@ -56,15 +56,21 @@ module _ (T : Ended) where
 -- ---- what a contract reads as, by computation
 
 module _ (M : Type 1) (T : Ended) (s : Stated M T) (c : Written M T) (said : Ensures M T c) where
-  -- the clauses make the contract, they ensure what is said, and u is v
+  -- the clauses make the contract, they ensure what is said, u is v, and nothing is asked
   abbrev pub Reads : {X : Type 0} → X → X → Type 2
   Reads {X} u v =
-      _≡_ {A = ((m : Model M) → Spec (m .𝓤) (T .signature)) × Ensures M T c × X}
-      (stated M T s, ensures M T c, u)
-      (made-of M T c, said, v)
+      _≡_ {A = ((m : Model M) → Spec (m .𝓤) (T .signature)) × Ensures M T c × X × (Model M → Inputs T → Type 0) × Asks M T c}
+      (stated M T s, ensures M T c, u, Ghost M T c, asks M T c)
+      (made-of M T c, said, v, λ m a. Unit {0}, λ m a g. emp (m .𝓤))
 
   abbrev pub Says : Type 2
   Says = (m : Model M) (a : Inputs T) (g : Ghost M T c m a) (x : Outcome T a) → ent (m .𝓤) (ensures M T c m a g x) (said m a g x)
+
+  pub free : {X : Type 0} (u v : X) → Reads u v → AsksNothing M T c
+  free u v reads m a = (
+    subst {A = Type 0} (λ A. A) (sym (λ i. reads i .3 m a)) tt,
+    λ g. subst (ent (m .𝓤) (emp (m .𝓤))) (sym (λ i. reads i .4 m a g)) (id⊢ (m .𝓤) (emp (m .𝓤))),
+  )
 
   pub says : {X : Type 0} (u v : X) → Reads u v → Says
   says u v reads m a g x =
@@ -100,6 +106,7 @@ module _ {M : Type 1} {T : Ended} {s : Stated M T} (c : Written M T) where
   result-is f reads =
       equates c (Result T) (λ a x. x .0) (result-at T f) (result-coded T)
       (λ i. reads i .0)
+      (free M T s c (ResultIs M T c f) (λ a v w. v) (λ a v w. w) reads)
       (says M T s c (ResultIs M T c f) (λ a v w. v) (λ a v w. w) reads)
 
   pub result : (f : ToResult T) → ResultReads M T s c f → OneResult M T s
@@ -113,6 +120,7 @@ module _ {M : Type 1} {T : Ended} {s : Stated M T} (c : Written M T) where
       by-equation
       (equates c (Result T) (λ a x. x .0) (result-at T f) (result-coded T)
       (λ i. reads i .0)
+      (free M T s c (ResultIsAnd M T c f φ) (λ a v w. v) (λ a v w. w) reads)
       (λ m a g x. via (m .𝓤) (ResultIsAnd M T c f φ m a g x)
       (says M T s c (ResultIsAnd M T c f φ) (λ a v w. v) (λ a v w. w) reads m a g x)
       (fact-mono (m .𝓤) ((x .0 ≡ result-at T f a) × φ a (x .0)) (x .0 ≡ result-at T f a) (λ p. p .0))))
@@ -129,6 +137,7 @@ module _ {M : Type 1} {T : Ended} {s : Stated M T} (c : Written M T) where
         by-equation
         (equates c (λ a. X) (λ a x. of a (x .1)) (at T X f) (λ a. coded)
         (λ i. reads i .0)
+        (free M T s c (ContentIs M T c of f) (λ a x y. x) (λ a x y. (y .0, to a (of a (x .1)))) reads)
         (says M T s c (ContentIs M T c of f) (λ a x y. x) (λ a x y. (y .0, to a (of a (x .1)))) reads))
         (λ a x y p. (λ i. reads i .2 a x y) ∙ (λ i. (y .0, to a (p i))) ∙ sym (λ i. reads i .2 a y y))
 
@@ -141,6 +150,7 @@ module _ {M : Type 1} {T : Ended} {s : Stated M T} (c : Written M T) where
         equates c (λ a. Result T a × X) (λ a x. (x .0, of a (x .1))) (λ a. (result-at T f a, at T X h a))
         (λ a. coded× (result-coded T a) coded)
         (λ i. reads i .0)
+        (free M T s c (Both M T c (ResultIs M T c f) (ContentIs M T c of h)) (λ a w. w) (λ a w. to a (of a w)) reads)
         (λ m a g x.
         let equal : Type 0 = _≡_ {A = Result T a × X} (x .0, of a (x .1)) (result-at T f a, at T X h a) in
         let P : SProp (m .𝓤) = ResultIs M T c f m a g x in

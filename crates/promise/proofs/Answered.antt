@@ -143,7 +143,7 @@ told-zero (Arrived what) told = refl
 pub said-done : (d : Device) (e : Event) (payload : List ℕ) → numberOf (said d e payload) ≡ 0
 said-done d e payload = told-zero (said d e payload) (said-told d e payload)
 
-told-out : (d : Device) (e : Event) (payload : List ℕ) (a : Answer) → outcome d e payload a .answer ≡ a
+pub told-out : (d : Device) (e : Event) (payload : List ℕ) (a : Answer) → outcome d e payload a .answer ≡ a
 told-out d e payload (RefusedEvent n) = refl
 told-out d e payload Done = refl
 told-out d e payload (Arrived what) = refl

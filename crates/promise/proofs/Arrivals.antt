@@ -8,7 +8,7 @@ use native.Mathlib.Nat.{add-suc, suc-add}
 use borrow.Author.Tests.{ne-eqb, leb-false}
 use lib.Bits.{bitOr, or-zero-r}
 use lib.Dec.{eqb, leb}
-use lib.ListN.{getD}
+use lib.ListN.{getD, drop}
 use Rattle.base.specs.Pick.{pick}
 use Rattle.counters.specs.Rules.{goodFrame}
 use Rattle.fifo.specs.Queue.{full}
@@ -16,6 +16,7 @@ use Rattle.filter.specs.declared.Hit.{Hit}
 use Rattle.filter.specs.declared.Hit.the-variants.{Filter, Nothing}
 use Rattle.filter.specs.Lowest.{lowestFrom, lowest, filhit}
 use Rattle.filter.specs.Match.{matches}
+use Rattle.fifo.specs.declared.Message.{Message}
 use Rattle.frame.specs.declared.Header.{Header}
 use Rattle.frame.specs.Length.{possible}
 use Rattle.frame.specs.Tables.{compared as comparedBy}
@@ -215,7 +216,7 @@ module _ (d : Device) (r : Records) (h : Kept d r) where
         h .0,
         h .1,
         (h .2 .0, h .2 .1, h .2 .2, heard-flags),
-        (message-same, filhit-same, rw (message-same, queued-same what) heard-queue, shows-fields f ok),
+        (ap (λ (m : Message). drop 1 (m .bytes)) message-same, filhit-same, rw (message-same, queued-same what) heard-queue, shows-fields f ok),
         h .4,
       )
 

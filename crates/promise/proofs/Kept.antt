@@ -3,7 +3,7 @@ use mathlib.Core.Path.{_≡_, refl, sym, _∙_, ap}
 use mathlib.Core.Bool.{true}
 use Prim.Native.Nat.{_%_}
 use lib.Dec.{eqb}
-use lib.ListN.{length}
+use lib.ListN.{length, drop}
 use Rattle.chip.specs.declared.Device.{Device}
 use Rattle.chip.specs.declared.Pattern.{Pattern}
 use Rattle.chip.specs.State.{fresh, idle, zeros}
@@ -38,7 +38,7 @@ Sums d r =
     × (d .regs .intf ≡ together (r .flags))
 
 abbrev pub Framed : Device → Records → Type 0
-Framed d r = (d .temp ≡ message (r .latest)) × (d .regs .filhit ≡ r .latest .filhit) × HoldsLedger (d .rx) (r .ledger) × Shown (r .latest)
+Framed d r = (drop 1 (d .temp .bytes) ≡ drop 1 (message (r .latest) .bytes)) × (d .regs .filhit ≡ r .latest .filhit) × HoldsLedger (d .rx) (r .ledger) × Shown (r .latest)
 
 abbrev pub Outgoing : Device → Records → Type 0
 Outgoing d r = Boxed (d .tx) (d .buffer) (d .sending) (d .history) (d .regs .mtag) (r .outbox)

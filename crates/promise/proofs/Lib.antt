@@ -29,3 +29,4 @@ pub mod Worked
 pub mod Cases
 pub mod Sides
 pub mod RuledOut
+pub mod NotTheCode

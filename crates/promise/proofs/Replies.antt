@@ -8,7 +8,7 @@ use native.Mathlib.Nat.{zero-add, suc-add, le-of-suc-le-suc, not-suc-le-zero, mo
 use borrow.Author.Tests.{le-leb, leb-true, eqb-true, eqb-false}
 use lib.Dec.{eqb, leb}
 use lib.ListN.{length, getD, take, drop, length-append, length-drop, length-replicate, drop-of-length-le, List·getD-map}
-use lib.Seq.{getD-take, getD-drop, length-take-le, take-at}
+use lib.Seq.{getD-take, getD-drop, length-take-le, take-at, drop-drop}
 use Rattle.base.specs.Pick.{among}
 use Rattle.base.specs.Tabulate.{tabulate}
 use Rattle.base.proofs.Booleans.{and-right}
@@ -147,8 +147,16 @@ module _ (d : Device) (r : Records) (range : InRange d) (h : Kept d r) where
       (cut-shown (message (oldest (r .ledger))) a c n (message-sized (oldest (r .ledger))) p q)
 
   -- of the latest frame
-  latest-shown : (c n : ℕ) → n ≤ 16 → take n (cut (d .temp) 0 (0 + c)) ≡ tabulate (λ (i : ℕ). getD (message (r .latest) .bytes) (past 0 c i) 0) 0 n
-  latest-shown c n q = rw (h .3 .0) (cut-shown (message (r .latest)) 0 c n (message-sized (r .latest)) (omega arith) q)
+  -- of the temporary buffer, from behind byte 1 on
+  latest-cut : (k : ℕ) → cut (d .temp) 0 (0 + (1 + k)) ≡ cut (message (r .latest)) 0 (0 + (1 + k))
+  unfolding cut
+  latest-cut k =
+      rw (zero-add (1 + k))
+      (ap padded (sym (drop-drop k 1 (d .temp .bytes)) ∙ ap (drop k) (h .3 .0) ∙ drop-drop k 1 (message (r .latest) .bytes)))
+
+  latest-shown : (k n : ℕ) → n ≤ 16
+      → take n (cut (d .temp) 0 (0 + (1 + k))) ≡ tabulate (λ (i : ℕ). getD (message (r .latest) .bytes) (past 0 (1 + k) i) 0) 0 n
+  latest-shown k n q = ap (take n) (latest-cut k) ∙ cut-shown (message (r .latest)) 0 (1 + k) n (message-sized (r .latest)) (omega arith) q
 
   -- of the history
   oldest-entry : (n : ℕ) → d .history .count ≡ suc n → take 3 (cut (next (d .history)) 3 16) ≡ getD (r .outbox .history) 0 []
@@ -179,8 +187,8 @@ module _ (d : Device) (r : Records) (range : InRange d) (h : Kept d r) where
   showing : AtRows Shows rows
   unfolding rows shows register readsMessage findsNone tecShown groupsShown
   showing =
-      (λ a. latest-shown 1 15 (omega arith))
-      and (λ a. latest-shown 3 13 (omega arith))
+      (λ a. latest-shown 0 15 (omega arith))
+      and (λ a. latest-shown 2 13 (omega arith))
       and waiting-shown 0 0 16 (omega arith) (omega arith)
       and waiting-shown 1 2 14 (omega arith) (omega arith)
       and waiting-shown 3 5 11 (omega arith) (omega arith)

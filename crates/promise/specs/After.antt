@@ -1,4 +1,4 @@
--- Demands 2 and 3, over every sequence from a fresh device, and from any other.
+-- Demands 2 and 3: after every sequence from a fresh device, and in any device that records describe.
 use mathlib.Core.Path.{_≡_}
 use mathlib.Core.List.{List}
 use Rattle.chip.specs.declared.Device.{Device}

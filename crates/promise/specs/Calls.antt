@@ -1,42 +1,48 @@
--- The machine that the promises are kept by is the code: what the contracts of the four calls, as the toolchain makes them of
--- the source, leave of an outcome (crate `one`).
+-- The machine that the promises are kept by is the code: the contracts of the calls, as the toolchain makes them of the source,
+-- ask nothing of a caller and equate each outcome with its step (crate `one`).
+-- Of a call, `ended` is its signature and `spec` its contract, in any model M of memory. An outcome x is the result, `x .0`,
+-- and what lent memory then holds, a place for each parameter: of `host::transfer` the third, `x .1 .1 .1 .0`, is the reply
+-- buffer. What lent memory held at the call is `now`.
 use denote.Ref.{now}
 use Rattle.chip.specs.declared.Device.{Device}
-use Rattle.chip.specs.State.{fresh}
 use Rattle.bus.specs.declared.types.Pins.{Pins}
-use Rattle.bus.specs.Pins.{pins}
 use Rattle.bus.proofs as bus
 use Rattle.chip.proofs as chip
 use Rattle.host.proofs as host
 use Rattle.one.specs.Law.{Inputs, Outcome, Equates}
 use Rattle.one.specs.Shapes.{at}
-use Rattle.promise.specs.Sequence.{spi, wire, replied, answered, Step, Machine}
+use Rattle.promise.specs.Sequence.{spi, wire, Given, replied, answered, Step, Machine}
 
-module _ (step : Machine) (M : Type 1) where
-  -- `host::transfer`: the device and the number that it gives back, and what the lent buffer holds at its return
-  abbrev pub transferred : (a : Inputs host.transfer.ended) → Outcome host.transfer.ended a → Step
-  transferred a x = record { device = x .0 .device; given = replied (x .0 .number) (x .1 .1 .1 .0) }
+module _ (M : Type 1) (step : Machine) where
+  -- `host::transfer(d, bytes, reply)`: the device, the number, and the buffer at the return
+  abbrev pub transferStep : (a : Inputs host.transfer.ended) → Outcome host.transfer.ended a → Step
+  transferStep a x = record { device = x .0 .device; given = replied (x .0 .number) (x .1 .1 .1 .0) }
 
   abbrev pub Transfers : Type 2
-  Transfers = Equates M host.transfer.ended host.transfer.spec (λ a. Step) transferred
-      (at host.transfer.ended Step (λ _ d bytes reply. step d (spi (now bytes) (now reply))))
+  Transfers = Equates M host.transfer.ended host.transfer.spec (λ a. Step) transferStep
+      (at host.transfer.ended Step (λ lifetimes d bytes reply. step d (spi (now bytes) (now reply))))
 
-  -- `bus::event`: the device and the answer
-  abbrev pub happened : (a : Inputs bus.event.ended) → Outcome bus.event.ended a → Step
-  happened a x = record { device = x .0 .device; given = answered (x .0 .answer) }
+  -- `bus::event(d, e, payload)`: the device and the answer
+  abbrev pub eventStep : (a : Inputs bus.event.ended) → Outcome bus.event.ended a → Step
+  eventStep a x = record { device = x .0 .device; given = answered (x .0 .answer) }
 
   abbrev pub Events : Type 2
-  Events = Equates M bus.event.ended bus.event.spec (λ a. Step) happened
-      (at bus.event.ended Step (λ _ d e payload. step d (wire e payload)))
+  Events = Equates M bus.event.ended bus.event.spec (λ a. Step) eventStep
+      (at bus.event.ended Step (λ lifetimes d e payload. step d (wire e payload)))
+
+  -- `bus::answer(d, e, payload)`: the answer alone
+  abbrev pub Asked : Type 2
+  Asked = Equates M bus.answer.ended bus.answer.spec (λ a. Given) (λ a x. answered (x .0))
+      (at bus.answer.ended Given (λ lifetimes d e payload. step d (wire e payload) .given))
 
 module _ (M : Type 1) where
-  -- `bus::pins`
+  -- `bus::pins(d)`
   abbrev pub Looks : (Device → Pins) → Type 2
-  Looks look = Equates M bus.pins.ended bus.pins.spec (λ a. Pins) (λ a x. x .0) (at bus.pins.ended Pins (λ _ d. look d))
+  Looks look = Equates M bus.pins.ended bus.pins.spec (λ a. Pins) (λ a x. x .0) (at bus.pins.ended Pins (λ lifetimes d. look d))
 
-  -- `chip::fresh`
+  -- `chip::fresh()`
   abbrev pub Begins : Device → Type 2
-  Begins first = Equates M chip.fresh.ended chip.fresh.spec (λ a. Device) (λ a x. x .0) (at chip.fresh.ended Device (λ _. first))
+  Begins first = Equates M chip.fresh.ended chip.fresh.spec (λ a. Device) (λ a x. x .0) (at chip.fresh.ended Device (λ lifetimes. first))
 
 abbrev pub IsTheCode : Machine → (Device → Pins) → Device → Type 2
-IsTheCode step look first = (M : Type 1) → Transfers step M × Events step M × Looks M look × Begins M first
+IsTheCode step look first = (M : Type 1) → Transfers M step × Events M step × Asked M step × Looks M look × Begins M first

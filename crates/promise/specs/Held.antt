@@ -3,7 +3,7 @@ use mathlib.Core.Path.{_≡_}
 use mathlib.Core.Bool.{true}
 use mathlib.Core.List.{List, [], _∷_, _++_, map}
 use Prim.Native.Nat.{ℕ, _%_, _≤_}
-use lib.ListN.{length, take}
+use lib.ListN.{length, take, drop}
 use Rattle.fifo.specs.declared.Message.{Message}
 use Rattle.fifo.specs.Queue.{waiting}
 use Rattle.chip.specs.declared.Device.{Device}
@@ -49,12 +49,13 @@ Pinned look d r = look d ≡ pinsShown r
 
 -- ---- demand 3
 
--- "the messages that reads took, then those still waiting, are exactly the good frames that 01 accepts since the last
--- clearing"
+-- The messages that reads took, then those still waiting, are exactly the good frames that 01 accepts since the last
+-- clearing.
 abbrev pub Whole : Device → Records → Type 0
 Whole d r = map message (r .ledger .taken) ++ waiting (d .rx) ≡ map message (r .ledger .accepted)
 
--- Each is kept with its fields as they arrived, and so is the latest, accepted or not.
+-- Each is kept with its fields as they arrived, and so is the latest, accepted or not. It is said of the messages that the
+-- promise above finds in the device.
 abbrev pub AsArrived : Device → Records → Type 0
 AsArrived d r = Each (λ f. Shows f (message f .bytes)) (r .latest ∷ r .ledger .accepted)
 
@@ -69,19 +70,19 @@ Sent d r = (waiting (d .tx) ≡ map kept (r .outbox .queue)) × Runs (d .sending
 
 -- ---- the whole of it
 
--- the temporary buffer and FILHIT
+-- the temporary buffer, of which nothing shows byte 1, and FILHIT
 abbrev pub Latest : Device → Records → Type 0
-Latest d r = (d .temp ≡ message (r .latest)) × (d .regs .filhit ≡ r .latest .filhit)
+Latest d r = (drop 1 (d .temp .bytes) ≡ drop 1 (message (r .latest) .bytes)) × (d .regs .filhit ≡ r .latest .filhit)
 
--- of each entry of the history the tag and the time tag; MTAG
+-- an entry of the history has a tag and a time tag; MTAG is of the tag last sent
 abbrev pub entryOf : Message → List ℕ
 entryOf m = take 3 (m .bytes)
 
 abbrev pub Remembered : Device → Records → Type 0
 Remembered d r = (map entryOf (waiting (d .history)) ≡ r .outbox .history) × (d .regs .mtag ≡ r .outbox .mtag)
 
--- what the code's arrays see to: "eight filters and eight masks of six bytes each", eight places in a queue, and an entry's
--- three bytes among at most sixteen
+-- What the code's arrays see to: "eight filters and eight masks of six bytes each", eight places in a queue, an entry's three
+-- bytes among its sixteen. Here a message may be shorter, since a payload may be.
 abbrev pub Banked : List Pattern → Type 0
 Banked ps = (length ps ≡ 8) × Each (λ (p : Pattern). length (p .bytes) ≡ 6) ps
 

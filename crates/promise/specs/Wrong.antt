@@ -22,6 +22,20 @@ use Rattle.promise.specs.Sequence.{Input, spi, wire, Given, replied, ans
 use Rattle.promise.specs.Commands.{messageReads, oneOf}
 use Rattle.promise.specs.Settings.{asksReset}
 
+-- ---- a step with a part changed
+
+abbrev pub with-device : Step → Device → Step
+with-device s d = record { device = d; given = s .given }
+
+abbrev pub with-given : Step → Given → Step
+with-given s g = record { device = s .device; given = g }
+
+abbrev pub with-queue : Step → Fifo → Step
+with-queue s q = with-device s (with-rx (s .device) q)
+
+abbrev pub with-registers : Step → Registers → Step
+with-registers s v = with-device s (with-regs (s .device) v)
+
 -- ---- how one differs
 
 -- in what a step makes of a device, or gives
@@ -45,23 +59,10 @@ butEvents change d (wire e payload) = change d (wire e payload) (shipped d (wire
 
 -- in the device that the reply of these commands is drawn from
 abbrev pub replying : List ℕ → (Device → Device) → Machine
-replying commands draw d (spi bytes buffer) = record {
-  device = shipped d (spi bytes buffer) .device;
-  given = replied (number (shipped d (spi bytes buffer) .given)) (replyAfter (pick (oneOf (byte bytes 1) commands) (draw d) d) bytes buffer);
-}
+replying commands draw d (spi bytes buffer) =
+    let s : Step = shipped d (spi bytes buffer) in
+    pick (done (s .given) && oneOf (byte bytes 1) commands) (with-given s (replied 0 (replyAfter (draw d) bytes buffer))) s
 replying commands draw d (wire e payload) = shipped d (wire e payload)
-
-abbrev pub with-device : Step → Device → Step
-with-device s d = record { device = d; given = s .given }
-
-abbrev pub with-given : Step → Given → Step
-with-given s g = record { device = s .device; given = g }
-
-abbrev pub with-queue : Step → Fifo → Step
-with-queue s q = with-device s (with-rx (s .device) q)
-
-abbrev pub with-registers : Step → Registers → Step
-with-registers s v = with-device s (with-regs (s .device) v)
 
 -- an arrival was told, and it was n
 abbrev pub tells : ℕ → Given → Bool
@@ -94,7 +95,7 @@ abbrev pub leisurely : Machine
 leisurely =
     but (λ d i s.
     let told : Step = shipped (crowded d) i in
-    pick (isSet 0 (d .time) && tells 5 (told .given)) (with-queue told (d .rx)) s)
+    pick (isSet 0 (d .time) && tells 0 (s .given)) (with-queue told (d .rx)) s)
 
 -- 01: "The room test is made before the filters, so a stranger's frame is answered A5."
 abbrev pub roomFirst : Machine
@@ -174,7 +175,7 @@ keepsBehind d (wire e payload) =
     let s : Step = shipped d (wire e payload) in
     pick (tells 0 (s .given) && not (eqb (d .acting) loopback)) (with-queue s (behindIn (s .device .rx) payload)) s
 
--- a host's reset that keeps the queue, and a mode write that clears it
+-- a host's reset that keeps the queue, and a write of another mode that clears it
 abbrev pub resetKeeps : Machine
 resetKeeps = butTransfers (λ d bytes s. pick (resetDone bytes s) (with-queue s (d .rx)) s)
 

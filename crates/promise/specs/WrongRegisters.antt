@@ -20,7 +20,7 @@ use Rattle.chip.specs.Parts.{with-rx, with-counters, with-acting, with-regs, wi
 use Rattle.receive.specs.Receive.{message}
 use Rattle.bus.specs.declared.types.Pins.{Pins}
 use Rattle.bus.specs.Pins.{pins}
-use Rattle.promise.specs.Sequence.{spi, wire, Given, replied, answered, Step, Machine, shipped}
+use Rattle.promise.specs.Sequence.{spi, wire, Given, replied, answered, Step, Machine, shipped, done}
 use Rattle.promise.specs.Commands.{messageReads, lengthsOf}
 use Rattle.promise.specs.Registers.{share}
 use Rattle.promise.specs.Settings.{modeNamed}
@@ -78,7 +78,7 @@ abbrev pub errsExchanged : Machine
 errsExchanged =
     butEvents (λ d i s.
     let set = shipped (with-regs d (with-errs (d .regs) 0)) i .device .regs .errs in
-    with-registers s (with-errs (s .device .regs) (bitOr (d .regs .errs) (set / 4 * 4 + bit 0 set * 2 + bit 1 set))))
+    pick (done (s .given)) (with-registers s (with-errs (s .device .regs) (bitOr (d .regs .errs) (set / 4 * 4 + bit 0 set * 2 + bit 1 set)))) s)
 
 -- the registers after a host's reset, as another device would have them
 abbrev pub resetting : (Registers → Registers → Registers) → Machine
@@ -128,7 +128,9 @@ blind = replying (0xEA ∷ 0xEC ∷ 0xF8 ∷ []) (λ d. with-counters d zeroed)
 
 -- one that shows the groups outside bus off too
 abbrev pub groupsAlways : Machine
-groupsAlways = replying (0xF8 ∷ []) (λ d. with-counters d (record { rec = d .counters .rec; tec = d .counters .tec; busoff = true; groups = d .counters .groups }))
+groupsAlways =
+    replying (0xF8 ∷ [])
+    (λ d. with-counters d (record { rec = d .counters .rec; tec = d .counters .tec; busoff = true; groups = d .counters .groups }))
 
 -- one that clears ERR and INTF before it shows them
 abbrev pub clearsFirst : Machine
