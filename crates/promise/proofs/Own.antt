@@ -44,9 +44,6 @@ header-reduced : (s : List ℕ) → headerWritten s ≡ reduced (headerSent s)
 unfolding headerSent
 header-reduced s = by-kind (marksExtended s) s
 
-count-reduced : (h : Header) → dataBytes h ≡ dataCount (reduced h)
-count-reduced h = count-same h
-
 below : (t : Bool) (n : ℕ) → n % pick t (2 ^ 29) (2 ^ 11) < pick t (2 ^ 29) (2 ^ 11)
 below true n = mod-lt n (lit< tt)
 below false n = mod-lt n (lit< tt)

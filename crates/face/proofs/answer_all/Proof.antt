@@ -1,6 +1,5 @@
 -- `face::answer_all` is safe and ends. The measure is the number of turns that are left. Assumes nothing.
 use mathlib.Core.Path.{_≡_}
-use Prim.Native.Nat.{_-_}
 use lib.ListN.{length}
 use borrow.Author.Needs.{needs}
 use Rattle.face.proofs.answer_all.Statement.{statement}
