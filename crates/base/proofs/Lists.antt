@@ -20,7 +20,9 @@ drop-replicate zero m a = rw (sub-zero m)
 drop-replicate (suc n) zero a = rw (zero-sub (suc n))
 drop-replicate (suc n) (suc m) a = rw (suc-sub-suc m n) (drop-replicate n m a)
 
--- ---- a table's rule, proved once: the table is `tabulate rule 0 n`, which antt computes, and so has the rule at each entry
+-- ---- a table's rule, proved once
+
+-- The table is `tabulate rule 0 n`, which antt computes, and so has the rule at each entry.
 
 getD-tabulate : {A : Type 0} (f : ℕ → A) (d : A) (n i k : ℕ) → k < n → getD (tabulate f i n) k d ≡ f (i + k)
 getD-tabulate f d zero i k h = absurd (not-suc-le-zero h)

@@ -1,5 +1,5 @@
--- `pick t x y` is "x if t, else y": how specs/ write an `if`. The kit calls it `cond`.
--- The rules turn a goal `r ≡ pick t x y` into the branch that a proof stands in; `search picks` applies them down to the leaf.
+-- `pick t x y` is "x if t, else y": how specs/ write an `if`. The kit calls it `cond`. The rules turn a goal
+-- `r ≡ pick t x y` into the branch that a proof stands in; `search picks` applies them down to the leaf.
 use mathlib.Core.Path.{_≡_}
 use mathlib.Core.Bool.{Bool, true, false, not, _&&_, _||_}
 use mathlib.Core.List.{List, [], _∷_}
@@ -43,7 +43,8 @@ pick-ne A a b r x y h p = pick-no A (eqb a b) r x y (ne-eqb a b h) p
 
 pub ruleset picks = (pick-yes, pick-no, pick-lt, pick-ge, pick-le, pick-gt, pick-eq, pick-ne)
 
--- The same for a yes-or-no rule, which specs/ write with `&&` and `||`; `search judges` goes down to the part that decides.
+-- The same for a yes-or-no rule, which specs/ write with `&&` and `||`; `search judges` goes down to the part that
+-- decides.
 pub and-yes : (t r u : Bool) → t ≡ true → r ≡ u → r ≡ (t && u)
 and-yes t r u e p = rw e p
 

@@ -1,5 +1,5 @@
-// The ground that the other crates stand on: definitions and laws in specs/ and proofs/, a flag as a bit, and how lent bytes
-// are read and written.
+// The ground that the other crates stand on: definitions and laws in specs/ and proofs/, a flag as a bit, and how
+// lent bytes are read and written.
 ghost use mathlib.Core.Path.{_≡_};
 ghost use Prim.Native.Nat.{_≤_};
 ghost use lib.ListN.{getD};

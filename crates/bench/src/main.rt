@@ -1,5 +1,5 @@
-// The benchmark's program: a list of records in, run through the device as often as it says, the last results out. What the
-// records and the results mean, bench/work.h tells.
+// The benchmark's program: a list of records in, run through the device as often as it says, the last results out.
+// What the records and the results mean, bench/work.h tells.
 ghost use Prim.Native.Nat.{_≤_, _*_};
 ghost use lib.ListN.{length};
 

@@ -16,7 +16,7 @@ use Rattle.flags.specs.Flags.{busError}
 use Rattle.modes.specs.Modes.{busQuiet, busActivity}
 use Rattle.receive.specs.Receive.{arrived, ownHeader, ownData}
 use Rattle.flags.specs.Reset.{reset}
-use Rattle.transmit.specs.Transmit.{begun, stopped, sent}
+use Rattle.transmit.specs.Transmit.{begun, stopped, transmitted}
 use Rattle.events.specs.declared.ErrorKind.{ErrorKind}
 use Rattle.events.specs.declared.ErrorKind.the-variants.{Stuff, Ack, Crc, Form, Bit}
 use Rattle.events.specs.declared.Event.{Event}
@@ -49,7 +49,8 @@ reachesTemporary A3 = false
 reachesTemporary A4 = true
 reachesTemporary A5 = true
 
--- "With WAKEUP set, a bus activity event or a good frame in sleep brings monitor mode": a frame that isn't taken is activity
+-- "With WAKEUP set, a bus activity event or a good frame in sleep brings monitor mode": a frame that isn't taken is
+-- activity
 unfoldable pub frameAfter : Device → Header → List ℕ → Arrival → Device
 frameAfter d h bytes what = pick (reachesTemporary what) (heard d h bytes what) (busActivity d)
 
@@ -79,7 +80,7 @@ transmitErrorMet d kind counted =
 
 -- in loopback the own message arrives, with the time tag that the history gets too
 unfoldable pub echoed : Device → Arrival → Device
-echoed d what = sent (arrived d (ownHeader d) (ownData d) what)
+echoed d what = transmitted (arrived d (ownHeader d) (ownData d) what)
 
 -- "The 128th group of eleven recessive bits ends bus off, both counters at 0, under 000's rule for automatic recovery."
 unfoldable pub recessiveMet : Device → Device
@@ -117,7 +118,7 @@ after d (ReceiveError kind) = receiveErrorMet d kind
 after d DominantBit = dominantMet d
 after d (TransmitError kind counted) = transmitErrorMet d kind counted
 after d Begun = begun d
-after d Completed = sent d
+after d Completed = transmitted d
 after d ArbitrationLost = stopped d
 after d ElevenRecessive = recessiveMet d
 after d BusQuiet = busQuiet d

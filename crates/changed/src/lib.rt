@@ -146,20 +146,17 @@ fn transmit_error_met(d: Device, kind: ErrorKind, counted: bool) -> Device
 fn echoed(d: Device, what: Arrival) -> Device
     ensures { λ r. ⌜ r ≡ echoed d what ⌝ }
 {
-    let m = d.buffer;
-    let bytes = m.bytes;
-    let h = frame::header_in(bytes);
-    let payload = frame::data_in(bytes);
-    let e = receive::arrived(d, h, payload, what);
-    transmit::sent(e)
+    let own = receive::own_frame(d);
+    let payload = own.payload;
+    let e = receive::arrived(d, own.header, payload, what);
+    transmit::transmitted(e)
 }
 
 fn recessive_met(d: Device) -> Device
     ensures { λ r. ⌜ r ≡ recessiveMet d ⌝ }
 {
-    let bor = (d.regs.ctrl0 >> 2) % 2 == 1;
     let pair = d.counters;
-    let c = counters::eleven_recessive(pair, bor);
+    let c = counters::eleven_recessive(pair, chip::bor(d));
     let mut e = d;
     e.counters = c;
     e
@@ -219,7 +216,7 @@ pub fn after(d: Device, e: Event) -> Device
         Event::DominantBit => dominant_met(d),
         Event::TransmitError(kind, counted) => transmit_error_met(d, kind, counted),
         Event::Begun => transmit::begun(d),
-        Event::Completed => transmit::sent(d),
+        Event::Completed => transmit::transmitted(d),
         Event::ArbitrationLost => transmit::stopped(d),
         Event::ElevenRecessive => recessive_met(d),
         Event::BusQuiet => modes::bus_quiet(d),

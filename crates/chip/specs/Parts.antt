@@ -1,4 +1,5 @@
--- A register file or a device with one part changed: how the rules say "the same, but". One for each part that a rule changes.
+-- A register file or a device with one part changed: how the rules say "the same, but". One for each part that a rule
+-- changes.
 use mathlib.Core.Bool.{Bool}
 use mathlib.Core.List.{List}
 use Prim.Native.Nat.{ℕ}

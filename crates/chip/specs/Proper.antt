@@ -1,4 +1,5 @@
--- When a device is one that the chip can be in (01, Numbers given back: 1 is given for "a count, place or field outside its range").
+-- When a device is one that the chip can be in (01, Numbers given back: 1 is given for "a count, place or field
+-- outside its range").
 use mathlib.Core.Bool.{Bool, _&&_, _||_}
 use Prim.Native.Nat.{ℕ}
 use lib.Dec.{eqb, leb}

@@ -29,7 +29,8 @@ sleep = 3
 abbrev pub initialization : ℕ
 initialization = 4
 
--- 01, Bus events: "Monitor mode moves neither", REC nor TEC: what stands there, and what a rule makes of it in any other mode
+-- 01, Bus events: "Monitor mode moves neither", REC nor TEC: what stands there, and what a rule makes of it in any
+-- other mode
 abbrev pub unlessMonitor : {A : Type 0} → ℕ → A → A → A
 unlessMonitor acting before after = pick (eqb acting monitor) before after
 
@@ -108,7 +109,8 @@ osm ctrl1 = isSet 5 ctrl1
 abbrev pub filton : Device → Bool
 filton d = isSet 4 (d .regs .ctrl1)
 
--- 000, CTRL1: TXEN "is logically ORed with the TXEN pin"; "a transmission can be enabled by either the TXEN pin or the TX1M bit".
+-- 000, CTRL1: TXEN "is logically ORed with the TXEN pin"; "a transmission can be enabled by either the TXEN pin or
+-- the TX1M bit".
 unfoldable pub enabled : Device → Bool
 enabled d = txen d || (tx1m d || d .txenpin)
 

@@ -1,6 +1,6 @@
 // The HI-3110's state, by value: what both doors read and change.
 ghost use mathlib.Core.Path.{_≡_};
-ghost use Rattle.chip.specs.State.{fresh, modeOf, enabled, bank};
+ghost use Rattle.chip.specs.State.{fresh, modeOf, resetBit, bor, wakeup, txen, tx1m, osm, filton, enabled, bank};
 ghost use Rattle.chip.specs.Proper.{registersInRange, sendingInRange, actingInRange, proper};
 use counters::Counters;
 use fifo::Fifo;
@@ -121,13 +121,58 @@ pub fn mode_of(ctrl0: u8) -> u8
     }
 }
 
+// RESET, in a byte that is written to CTRL0.
+pub fn reset_bit(ctrl0: u8) -> bool
+    ensures { λ r. ⌜ r ≡ resetBit ctrl0 ⌝ }
+{
+    (ctrl0 >> 3) % 2 == 1
+}
+
+// CTRL0's BOR: bus off ends by itself.
+pub fn bor(d: Device) -> bool
+    ensures { λ r. ⌜ r ≡ bor d ⌝ }
+{
+    (d.regs.ctrl0 >> 2) % 2 == 1
+}
+
+// CTRL0's WAKEUP: activity on the bus ends sleep.
+pub fn wakeup(d: Device) -> bool
+    ensures { λ r. ⌜ r ≡ wakeup d ⌝ }
+{
+    (d.regs.ctrl0 >> 4) % 2 == 1
+}
+
+fn txen(d: Device) -> bool
+    ensures { λ r. ⌜ r ≡ txen d ⌝ }
+{
+    (d.regs.ctrl1 >> 7) % 2 == 1
+}
+
+fn tx1m(d: Device) -> bool
+    ensures { λ r. ⌜ r ≡ tx1m d ⌝ }
+{
+    (d.regs.ctrl1 >> 6) % 2 == 1
+}
+
+// CTRL1's OSM: one-shot mode.
+pub fn osm(ctrl1: u8) -> bool
+    ensures { λ r. ⌜ r ≡ osm ctrl1 ⌝ }
+{
+    (ctrl1 >> 5) % 2 == 1
+}
+
+// CTRL1's FILTON: frames go through the filters.
+pub fn filton(d: Device) -> bool
+    ensures { λ r. ⌜ r ≡ filton d ⌝ }
+{
+    (d.regs.ctrl1 >> 4) % 2 == 1
+}
+
 // Whether transmission is enabled: by TXEN, TX1M or the TXEN pin.
 pub fn enabled(d: Device) -> bool
     ensures { λ r. ⌜ r ≡ enabled d ⌝ }
 {
-    let txen = (d.regs.ctrl1 >> 7) % 2 == 1;
-    let tx1m = (d.regs.ctrl1 >> 6) % 2 == 1;
-    txen | tx1m | d.txenpin
+    txen(d) | tx1m(d) | d.txenpin
 }
 
 // Filters or masks as the match takes them.
@@ -166,9 +211,8 @@ fn sending_in_range(d: Device) -> bool
     ensures { λ r. ⌜ r ≡ sendingInRange d ⌝ }
 {
     let sending = d.sending;
-    let waiting = d.tx.count;
     if sending == FIRST_IN_FIFO {
-        1 <= waiting
+        1 <= d.tx.count
     } else {
         sending <= 2
     }
@@ -190,12 +234,12 @@ fn acting_in_range(d: Device) -> bool
 pub fn proper(d: Device) -> bool
     ensures { λ r. ⌜ r ≡ proper d ⌝ }
 {
-    let received = fifo::in_range(d.rx);
-    let to_send = fifo::in_range(d.tx);
+    let receive = fifo::in_range(d.rx);
+    let transmit = fifo::in_range(d.tx);
     let history = fifo::in_range(d.history);
     let registers = registers_in_range(d.regs);
     let groups = d.counters.groups <= 128;
     let sending = sending_in_range(d);
     let acting = acting_in_range(d);
-    received & to_send & history & registers & groups & sending & acting
+    receive & transmit & history & registers & groups & sending & acting
 }

@@ -35,7 +35,8 @@ writeRow c v = row c 1 1 0 v 0
 abbrev pub writeTo : ℕ → ℕ → ℕ → Row
 writeTo c v k = row c 6 6 0 v k
 
--- 01, What the device stands between: outside are "… and commands 0x4E, 0xF4 and 0xF6". No row has one of them: `table-rule` in proofs/Rows.
+-- 01, What the device stands between: outside are "… and commands 0x4E, 0xF4 and 0xF6". No row has one of them:
+-- `table-rule` in proofs/Rows.
 abbrev pub factory : ℕ → Bool
 factory c = eqb c 0x4E || (eqb c 0xF4 || eqb c 0xF6)
 

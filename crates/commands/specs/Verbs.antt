@@ -1,4 +1,5 @@
--- What a command is for, by number, in the order of 000's Table 1: its names, shortened; the FIFOs are cleared, as 01 says.
+-- What a command is for, by number, in the order of 000's Table 1: its names, shortened; the FIFOs are cleared, as 01
+-- says.
 use Prim.Native.Nat.{ℕ}
 
 abbrev pub readTemporaryWithTime : ℕ

@@ -1,8 +1,8 @@
-// The SPI commands of 000's Table 1, but for the three factory ones, in one table: dispatch and the checks of length and reply
-// read it.
+// The SPI commands of 000's Table 1, but for the three factory ones, in one table: dispatch and the checks of length
+// and reply read it.
 ghost use mathlib.Core.Path.{_≡_};
 ghost use Prim.Native.Nat.{_<_};
-ghost use lib.ListN.{getD};
+ghost use lib.ListN.{getD, length};
 ghost use Rattle.commands.specs.Table.{rows, noRow, lookup, placeIn};
 
 mod table;
@@ -26,10 +26,18 @@ pub enum Found {
 }
 
 fn at(i: usize) -> Row
-    requires { ⌜ i < 69 ⌝ }
+    requires { ⌜ i < length rows ⌝ }
     ensures { λ r. ⌜ r ≡ getD rows i noRow ⌝ }
 {
-    table::ROWS[i]
+    let row = table::ROWS[i];
+    Row {
+        command: row[0],
+        least: row[1],
+        most: row[2],
+        out: row[3],
+        verb: row[4],
+        index: row[5],
+    }
 }
 
 // The place of the command's row. It is looked up and not searched for: a search took more time than all else that a
@@ -47,7 +55,7 @@ pub fn find(command: u8) -> Found
     ensures { λ r. ⌜ r ≡ lookup rows command ⌝ }
 {
     let i = place(command) as usize;
-    if i < 69 {
+    if i < table::COUNT {
         Found::At(at(i))
     } else {
         Found::Nothing

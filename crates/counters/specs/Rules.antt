@@ -1,5 +1,5 @@
--- REC, TEC, bus off and its groups: how each moves (01, Bus events). "The pair of counters is one small record that both
--- the transmit and receive rules change."
+-- REC, TEC, bus off and its groups: how each moves (01, Bus events). "The pair of counters is one small record that
+-- both the transmit and receive rules change."
 use mathlib.Core.Bool.{Bool, true, false, _&&_}
 use Prim.Native.Nat.{ℕ, _+_, _-_, min}
 use lib.Dec.{ltb, eqb}

@@ -1,5 +1,6 @@
-// Rules over a record that the caller lends, in 01's form (Forms and where they belong): "REC/TEC record first by value; then a
-// few thin functions take it by &mut and call the covered rule." The work and its statement are in the rule by value.
+// Rules over a record that the caller lends, in 01's form (Forms and where they belong): "REC/TEC record first by
+// value; then a few thin functions take it by &mut and call the covered rule." The work and its statement are in the
+// rule by value.
 ghost use mathlib.Core.Path.{_≡_};
 ghost use Rattle.counters.specs.Rules.{receiveError, goodFrame, transmitError, completed};
 use crate::Counters;

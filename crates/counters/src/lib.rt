@@ -1,5 +1,5 @@
-// The error counters REC and TEC, bus off and the groups of recessive bits that end it: one small record and the rules that
-// move it.
+// The error counters REC and TEC, bus off and the groups of recessive bits that end it: one small record and the
+// rules that move it.
 ghost use mathlib.Core.Path.{_≡_};
 ghost use Prim.Native.Nat.{_+_, _-_, _≤_, min};
 ghost use Rattle.counters.specs.Rules.{receiveError, dominantBit, goodFrame, transmitError, completed};

@@ -1,5 +1,5 @@
--- What each command does to the device (01, Transfers, and the rules of transmit, modes and flags; 000, Table 1). `bytes` is the whole transfer: byte 1
--- is the command.
+-- What each command does to the device (01, Transfers, and the rules of transmit, modes and flags; 000, Table 1).
+-- `bytes` is the whole transfer: byte 1 is the command.
 use mathlib.Core.List.{List, [], _∷_}
 use Prim.Native.Nat.{ℕ, _%_}
 use lib.Dec.{eqb}
@@ -9,7 +9,7 @@ use Rattle.base.specs.Pick.{pick, among}
 use Rattle.counters.specs.Rules.{testRec, testTec}
 use Rattle.fifo.specs.declared.Message.{Message}
 use Rattle.fifo.specs.Queue.{empty, put, take}
-use Rattle.sent.specs.Sent.{messageOf, stored}
+use Rattle.to_send.specs.ToSend.{messageOf, stored}
 use Rattle.chip.specs.declared.Device.{Device}
 use Rattle.chip.specs.declared.Pattern.{Pattern}
 use Rattle.chip.specs.declared.Registers.{Registers}
@@ -30,8 +30,8 @@ pattern bytes = record {
 }
 
 -- "ERR bits 4 to 0 clear when read"; 000, INTF: "Reading this register will clear all bits"
-abbrev pub settings : Registers → ℕ → List (ℕ × Registers)
-settings r value =
+abbrev pub registerDeeds : Registers → ℕ → List (ℕ × Registers)
+registerDeeds r value =
     (readErr, with-errs r 0) ∷
     (readIntf, with-intf r 0) ∷
     (writeCtrl1, with-ctrl1 r value) ∷
@@ -43,7 +43,7 @@ settings r value =
     []
 
 unfoldable pub registersAfter : Registers → ℕ → ℕ → Registers
-registersAfter r v value = among v (settings r value) r
+registersAfter r v value = among v (registerDeeds r value) r
 
 unfoldable pub registerChanged : Device → ℕ → ℕ → Device
 registerChanged d v value = with-regs d (registersAfter (d .regs) v value)

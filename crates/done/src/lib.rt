@@ -48,9 +48,9 @@ fn message_written(d: Device, bytes: &[u8]) -> Device
     if bytes.len() == 0 {
         return d;
     }
-    let reading = sent::message_of(&bytes[1..]);
+    let reading = to_send::message_of(&bytes[1..]);
     let message = reading.message;
-    let bytes = sent::stored(message);
+    let bytes = to_send::stored(message);
     let tx = d.tx;
     let longer = fifo::put(tx, Message { bytes });
     let mut e = d;

@@ -21,7 +21,8 @@ statf d =
 unfoldable pub err : Device → ℕ
 err d = levelBits (d .counters) + d .regs .errs % 32
 
--- TSTAT: 11 while one runs, "00: Transmission not enabled", "01: … FIFO is empty", "10: Waiting to transmit or re-transmit"
+-- TSTAT: 11 while one runs, "00: Transmission not enabled", "01: … FIFO is empty", "10: Waiting to transmit or
+-- re-transmit"
 unfoldable pub tstat : Device → ℕ
 tstat d =
     pick (eqb (d .sending) idle)
@@ -44,7 +45,8 @@ int d = share (d .regs .intf) (d .regs .inte)
 unfoldable pub stat : Device → Bool
 stat d = share (statf d) (d .regs .statfe)
 
--- 000, GPINE: 0000 picks INTF's lowest flag, F0MESS, 0111 its highest, RXTMP; 1000 picks STATF's lowest, RXFFULL, 1111 its highest, TXMTY.
+-- 000, GPINE: 0000 picks INTF's lowest flag, F0MESS, 0111 its highest, RXTMP; 1000 picks STATF's lowest, RXFFULL,
+-- 1111 its highest, TXMTY.
 unfoldable pub gp : Device → ℕ → Bool
 gp d half =
     pick (ltb (half % 16) 8)

@@ -11,14 +11,14 @@ pub fn statf(d: Device) -> u8
     ensures { λ r. ⌜ r ≡ statf d ⌝ }
 {
     let c = d.counters;
-    base::flag(d.tx.count == 0) * 128
-        + base::flag(8 <= d.tx.count) * 64
-        + base::flag(8 <= d.history.count) * 32
+    base::flag(fifo::is_empty(d.tx)) * 128
+        + base::flag(fifo::full(d.tx)) * 64
+        + base::flag(fifo::full(d.history)) * 32
         + base::flag(levels::errw(c)) * 16
         + base::flag(levels::errp(c)) * 8
         + base::flag(c.busoff) * 4
-        + base::flag(d.rx.count == 0) * 2
-        + base::flag(8 <= d.rx.count)
+        + base::flag(fifo::is_empty(d.rx)) * 2
+        + base::flag(fifo::full(d.rx))
 }
 
 // The error register.
@@ -33,10 +33,9 @@ fn tstat(d: Device) -> u8
     ensures { λ r. ⌜ r ≡ tstat d ⌝ }
 {
     let sending = d.sending;
-    let waiting = d.tx.count;
     if sending == IDLE {
         if chip::enabled(d) {
-            if waiting == 0 { 1 } else { 2 }
+            if fifo::is_empty(d.tx) { 1 } else { 2 }
         } else {
             0
         }

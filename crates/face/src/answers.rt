@@ -90,8 +90,8 @@ fn unreadable(
     raw(out, n, b'\n')
 }
 
-fn transfer(d: Device, sent: [u8; 16], count: usize, room: u8, out: &mut [u8], at: usize) -> Turn {
-    let t = device::transfer(d, sent, count, room);
+fn transfer(d: Device, given: [u8; 16], count: usize, room: u8, out: &mut [u8], at: usize) -> Turn {
+    let t = device::transfer(d, given, count, room);
     let device = t.device;
     let reply = t.reply;
     let n = decimal(out, at, t.number as u64);

@@ -1,5 +1,5 @@
-// A line that is being read. Its bytes stand at the front of a buffer, from the first that is no blank on; from `#` on they are
-// passed over and never count.
+// A line that is being read. Its bytes stand at the front of a buffer, from the first that is no blank on; from `#`
+// on they are passed over and never count.
 ghost use Prim.Native.Nat.{_<_, _≤_};
 ghost use lib.ListN.{length};
 

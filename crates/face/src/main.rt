@@ -1,5 +1,5 @@
-// A script of transfers and bus events in, one line of answer for each request out, in constant memory. It reads a chunk,
-// answers the lines that end in it, writes the answers and reads on.
+// A script of transfers and bus events in, one line of answer for each request out, in constant memory. It reads a
+// chunk, answers the lines that end in it, writes the answers and reads on.
 mod answers;
 mod device;
 mod lines;
@@ -152,8 +152,8 @@ fn turn(r: Run, line: &mut [u8], out: &mut [u8]) -> Run {
     }
 }
 
-// A proved loop has to end, and nothing says that the input does. So the loop counts its turns down, from a number that no
-// run uses up.
+// A proved loop has to end, and nothing says that the input does. So the loop counts its turns down, from a number
+// that no run uses up.
 fn answer_all(r: Run, line: &mut [u8], out: &mut [u8]) {
     let mut e = r;
     let mut turns = u64::MAX;

@@ -1,5 +1,5 @@
-// Text at a place of the buffer of answers. Each function gives back the place after it. What finds no room is left out;
-// the buffer is written before that can happen.
+// Text at a place of the buffer of answers. Each function gives back the place after it. What finds no room is left
+// out; the buffer is written before that can happen.
 
 // A byte as it is.
 pub(crate) fn raw(out: &mut [u8], at: usize, b: u8) -> usize {

@@ -1,4 +1,5 @@
--- A queue of up to eight messages, in a ring of eight places (01: "eight messages wait", "eight entries, a ninth is not stored").
+-- A queue of up to eight messages, in a ring of eight places (01: "eight messages wait", "eight entries, a ninth is
+-- not stored").
 use mathlib.Core.Bool.{Bool, _&&_}
 use mathlib.Core.List.{List, []}
 use Prim.Native.Nat.{ℕ, _+_, _-_, _%_}

@@ -1,6 +1,6 @@
 // A queue of up to eight messages. The receive FIFO, the transmit FIFO and the transmit history are each one.
 ghost use mathlib.Core.Path.{_≡_};
-ghost use Rattle.fifo.specs.Queue.{empty, put, take, next, inRange};
+ghost use Rattle.fifo.specs.Queue.{empty, eightWait, noneWaits, full, isEmpty, put, take, next, inRange};
 
 // Sixteen bytes, as 000's Table 5 lays out a message; in a message to send, byte 1 is its tag.
 pub struct Message {
@@ -25,19 +25,44 @@ pub fn empty() -> Fifo
     }
 }
 
+// By how many there are, for those who ask of a count alone.
+pub fn eight_wait(count: u8) -> bool
+    ensures { λ r. ⌜ r ≡ eightWait count ⌝ }
+{
+    8 <= count
+}
+
+pub fn none_waits(count: u8) -> bool
+    ensures { λ r. ⌜ r ≡ noneWaits count ⌝ }
+{
+    count == 0
+}
+
+pub fn full(q: Fifo) -> bool
+    ensures { λ r. ⌜ r ≡ full q ⌝ }
+{
+    eight_wait(q.count)
+}
+
+pub fn is_empty(q: Fifo) -> bool
+    ensures { λ r. ⌜ r ≡ isEmpty q ⌝ }
+{
+    none_waits(q.count)
+}
+
 // The message comes last. A ninth is not stored.
 pub fn put(q: Fifo, m: Message) -> Fifo
     ensures { λ r. ⌜ r ≡ put q m ⌝ }
 {
     let count = q.count;
-    if count < 8 {
+    if full(q) {
+        q
+    } else {
         let place = (q.first as usize + count as usize) % 8;
         let mut p = q;
         p.items[place] = m;
         p.count = count + 1;
         p
-    } else {
-        q
     }
 }
 
@@ -46,7 +71,7 @@ pub fn take(q: Fifo) -> Fifo
     ensures { λ r. ⌜ r ≡ take q ⌝ }
 {
     let count = q.count;
-    if count == 0 {
+    if is_empty(q) {
         q
     } else {
         let first = (q.first as usize + 1) % 8;

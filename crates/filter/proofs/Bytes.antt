@@ -1,5 +1,5 @@
--- A test of whole numbers, `(x ^ f) & m == 0`, says what `agree` says of their bits: one argument over the number of bits.
--- Then six such bytes are the 48 places. Assumes nothing.
+-- A test of whole numbers, `(x ^ f) & m == 0`, says what `agree` says of their bits: one argument over the number of
+-- bits. Then six such bytes are the 48 places. Assumes nothing.
 use mathlib.Core.Path.{_≡_, refl, sym, ap, ap₂, _∙_}
 use mathlib.Core.Bool.{Bool, true, false, _&&_, _||_}
 use mathlib.Core.List.{List}

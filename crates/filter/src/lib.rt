@@ -1,5 +1,5 @@
-// The acceptance filters: eight filters and eight masks of six bytes each, against the six bytes that a frame is compared
-// by. It knows nothing of frames or of the device.
+// The acceptance filters: eight filters and eight masks of six bytes each, against the six bytes that a frame is
+// compared by. It knows nothing of frames or of the device.
 ghost use mathlib.Core.Path.{_≡_};
 ghost use Rattle.filter.specs.Match.{agree, byteOf, countedByte, matches};
 ghost use Rattle.filter.specs.Lowest.{lowest, filhit};

@@ -32,6 +32,7 @@ f0mess = 1
 unfoldable pub raised : Device → ℕ → Device
 raised d flags = with-regs d (with-intf (d .regs) (bitOr (d .regs .intf) flags))
 
--- 01, Bus events: "A kind of error is one of ERR's bits 4 to 0; the event sets that bit"; 000, INTF: BUSERR "is set when a bus error occurs"
+-- 01, Bus events: "A kind of error is one of ERR's bits 4 to 0; the event sets that bit"; 000, INTF: BUSERR "is set
+-- when a bus error occurs"
 unfoldable pub busError : Device → ℕ → Device
 busError d bit = raised (with-regs d (with-errs (d .regs) (bitOr (d .regs .errs) bit))) buserr

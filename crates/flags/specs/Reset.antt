@@ -3,8 +3,8 @@ use Rattle.chip.specs.declared.Device.{Device}
 use Rattle.chip.specs.Parts.{with-errs}
 use Rattle.chip.specs.State.{fresh}
 
--- What power-up gives, but for what outlives a reset. 01: "ERR keeps its bits over a reset; so do REC, TEC and bus off";
--- 000: the filter and mask bits are not reset. The TXEN pin is a wire and keeps its level.
+-- What power-up gives, but for what outlives a reset. 01: "ERR keeps its bits over a reset; so do REC, TEC and bus
+-- off"; 000: the filter and mask bits are not reset. The TXEN pin is a wire and keeps its level.
 unfoldable pub reset : Device → Device
 reset d = record {
   regs = with-errs (fresh .regs) (d .regs .errs);

@@ -1,5 +1,5 @@
--- What a host reads in the sixteen bytes is what arrived: so two frames that differ in identifier, kind, remote, length code,
--- data, time tag or FILHIT2..0 have different bytes. Assumes nothing.
+-- What a host reads in the sixteen bytes is what arrived: so two frames that differ in identifier, kind, remote,
+-- length code, data, time tag or FILHIT2..0 have different bytes. Assumes nothing.
 use mathlib.Core.Path.{_≡_, refl, ap, sym, _∙_}
 use mathlib.Core.Bool.{Bool, true}
 use mathlib.Core.List.{List}

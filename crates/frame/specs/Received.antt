@@ -8,8 +8,8 @@ use Rattle.frame.specs.declared.Header.{Header}
 use Rattle.frame.specs.Length.{dataOf}
 use Rattle.frame.specs.Tables.{idAsRead, idFrom}
 
--- Byte 1 tells standard from extended in bit 7, and FILHIT2..0 in bits 2 to 0; 2 and 3 the time tag; 4 to 7 the identifier; 8 the
--- length code; 9 to 16 the data.
+-- Byte 1 tells standard from extended in bit 7, and FILHIT2..0 in bits 2 to 0; 2 and 3 the time tag; 4 to 7 the
+-- identifier; 8 the length code; 9 to 16 the data.
 unfoldable pub received : Header → List ℕ → ℕ → ℕ → List ℕ
 received h bytes time filhit =
     (flag (h .extended) * 128 + filhit % 8) ∷ (timeBytes time ++ idAsRead h ++ h .code % 16 ∷ dataOf h bytes)

@@ -42,8 +42,8 @@ idAsRead h =
     (bits 6 0 (idBits h) * 2 + flag (h .remote)) ∷
     []
 
--- Table 4a, what a filter is held against: ID28..21; ID20..18, RTR, IDE, ID17..15; ID14..7; ID6..0 and a bit that isn't named;
--- the first two data bytes. "bits and bytes that a frame lacks compare as zero"
+-- Table 4a, what a filter is held against: ID28..21; ID20..18, RTR, IDE, ID17..15; ID14..7; ID6..0 and a bit that
+-- isn't named; the first two data bytes. "bits and bytes that a frame lacks compare as zero"
 unfoldable pub compared : Header → List ℕ → List ℕ
 compared h bytes =
     bits 28 21 (idBits h) ∷

@@ -87,8 +87,8 @@ fn data_of(h: Header, bytes: &[u8]) -> [u8; 8]
     eight
 }
 
-// The identifier in 0x12: Table 2. For whoever writes a message, a driver or another caller: no crate here calls it, and 01's
-// worked numbers are computed from its definition.
+// The identifier in 0x12: Table 2. For whoever writes a message, a driver or another caller: no crate here calls it,
+// and 01's worked numbers are computed from its definition.
 pub fn id_to_send(h: Header) -> IdBytes
     ensures { λ r. ⌜ r ≡ idToSend h ⌝ }
 {

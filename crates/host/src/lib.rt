@@ -1,4 +1,5 @@
-// The host's door: a transfer's bytes in, a reply out. Three questions: is it refused, what does it show, what does it do.
+// The host's door: a transfer's bytes in, a reply out. Three questions: is it refused, what does it show, what does
+// it do.
 ghost use mathlib.Core.Path.{_≡_};
 ghost use lib.ListN.{length};
 ghost use Rattle.host.specs.Transfer.{transfer, replyAfter};

@@ -30,11 +30,13 @@ noErrors d = quietMode (d .acting) || d .counters .busoff
 unfoldable pub runs : Device → Bool
 runs d = not (eqb (d .sending) idle)
 
--- 8: "an identifier of 2^11 (standard) or 2^29 (extended) or more, a length code above 15, data bytes not as many as the length code says"
+-- 8: "an identifier of 2^11 (standard) or 2^29 (extended) or more, a length code above 15, data bytes not as many as
+-- the length code says"
 unfoldable pub impossibleFrame : Header → ℕ → Bool
 impossibleFrame h given = not (possible h && dataFits h given)
 
--- 8 is also given for "an unknown kind", "a completion, transmit error or lost arbitration with nothing begun", and for a begin that can't be.
+-- 8 is also given for "an unknown kind", "a completion, transmit error or lost arbitration with nothing begun", and
+-- for a begin that can't be.
 unfoldable pub impossible : Device → Event → Bool
 impossible d (GoodFrame h acknowledged given) = impossibleFrame h given
 impossible d (ReceiveError kind) = noErrors d

@@ -106,11 +106,9 @@ fn echo(d: Device) -> Answer
 {
     let acting = d.acting;
     if acting == LOOPBACK {
-        let m = d.buffer;
-        let bytes = m.bytes;
-        let h = frame::header_in(bytes);
-        let payload = frame::data_in(bytes);
-        Answer::Arrived(receive::filters_and_room(d, h, payload))
+        let own = receive::own_frame(d);
+        let payload = own.payload;
+        Answer::Arrived(receive::filters_and_room(d, own.header, payload))
     } else {
         Answer::Done
     }

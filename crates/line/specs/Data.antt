@@ -17,8 +17,8 @@ abbrev pub firstOther : List (List ℕ) → List ℕ
 firstOther [] = []
 firstOther (w ∷ ws) = pick (isByte w) (firstOther ws) w
 
--- Of more than sixteen the first sixteen are kept and counted. No command takes more than fifteen and no frame has more than
--- eight, so sixteen are refused as more would be.
+-- Of more than sixteen the first sixteen are kept and counted. No command takes more than fifteen and no frame has
+-- more than eight, so sixteen are refused as more would be.
 abbrev pub kept : List (List ℕ) → List ℕ
 kept ws = take 16 (map (valueOf 16) ws)
 

@@ -31,7 +31,8 @@ valueFrom base n (b ∷ w) = valueFrom base (n * base + digitOf b) w
 unfoldable pub valueOf : ℕ → List ℕ → ℕ
 valueOf base w = valueFrom base 0 w
 
--- The largest identifier that is told apart. No frame has one above 0x1FFFFFFF, so a longer number stays as impossible as it was.
+-- The largest identifier that is told apart. No frame has one above 0x1FFFFFFF, so a longer number stays as
+-- impossible as it was.
 abbrev pub most : ℕ
 most = 0xFFFFFFFF
 

@@ -1,5 +1,5 @@
--- What a line asks for: the requests of `face`, word by word. A request is judged from left to right, and the first word that
--- is wrong decides and is told; a missing word is read as an empty one, and so is wrong.
+-- What a line asks for: the requests of `face`, word by word. A request is judged from left to right, and the first
+-- word that is wrong decides and is told; a missing word is read as an empty one, and so is wrong.
 use mathlib.Core.Bool.{Bool, true, false, _&&_}
 use mathlib.Core.List.{List, [], _∷_}
 use Prim.Native.Nat.{ℕ, _%_, min}
@@ -37,7 +37,8 @@ use Rattle.line.specs.Text.{ascii}
 abbrev pub plain : Asked → Line
 plain a = record { asked = a; bytes = replicate 16 0; count = 0 }
 
--- the word that was read where e was expected: its first sixteen bytes and its whole length, which is 0 where no word is left
+-- the word that was read where e was expected: its first sixteen bytes and its whole length, which is 0 where no word
+-- is left
 abbrev pub unreadable : Expected → List ℕ → Line
 unreadable e w = record { asked = Unreadable e; bytes = head w; count = length w }
 

@@ -29,8 +29,8 @@ first ws = getD ws 0 []
 abbrev pub rest : List (List ℕ) → List (List ℕ)
 rest ws = drop 1 ws
 
--- A byte that isn't blank stands before s, whose words are ws: it is a word by itself where s ends or begins with a blank, and
--- else the first letter of the first word of s.
+-- A byte that isn't blank stands before s, whose words are ws: it is a word by itself where s ends or begins with a
+-- blank, and else the first letter of the first word of s.
 abbrev pub joined : ℕ → List ℕ → List (List ℕ) → List (List ℕ)
 joined b s ws = pick (isBlank (getD s 0 0x20)) ((b ∷ []) ∷ ws) ((b ∷ first ws) ∷ rest ws)
 
@@ -71,8 +71,8 @@ letters s = run (λ b. not (isBlank b)) s
 abbrev pub beforeComment : List ℕ → ℕ
 beforeComment s = run (λ b. not (isComment b)) s
 
--- The first word of what is left of s from `at` on stands between two places of s, and after it stand the others; with no
--- word left the two places are one.
+-- The first word of what is left of s from `at` on stands between two places of s, and after it stand the others;
+-- with no word left the two places are one.
 pub record Found (s : List ℕ) (at : ℕ) (r : Span) : Type 0 where
   pub ahead : at ≤ r .from
   pub order : r .from ≤ r .to

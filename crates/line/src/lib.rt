@@ -1,5 +1,5 @@
-// A line of `face`'s script as a request: the words, the numbers and the requests of the protocol, for every line of bytes
-// of any length.
+// A line of `face`'s script as a request: the words, the numbers and the requests of the protocol, for every line of
+// bytes of any length.
 mod answers;
 mod data;
 mod errors;
@@ -42,11 +42,11 @@ pub enum Asked {
 
 pub struct Line {
     pub asked: Asked,
-    // The bytes of the transfer or of the frame's data, then zeros. A frame's payload is the first eight. A line that can't be
-    // read has here the word that stood where another was expected.
+    // The bytes of the transfer or of the frame's data, then zeros. A frame's payload is the first eight. A line that
+    // can't be read has here the word that stood where another was expected.
     pub bytes: [u8; 16],
-    // How many there are. No more than sixteen bytes of data are kept or counted; of a word sixteen are kept and all are
-    // counted, and it has none where the line ended early.
+    // How many there are. No more than sixteen bytes of data are kept or counted; of a word sixteen are kept and all
+    // are counted, and it has none where the line ended early.
     pub count: usize,
 }
 

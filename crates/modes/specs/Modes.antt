@@ -15,19 +15,20 @@ abbrev pub put-ctrl0 : Device → ℕ → Device
 put-ctrl0 d v = with-regs d (with-ctrl0 (d .regs) v)
 
 -- 000, INTF: MCHG "is set when the mode of operation is changed"
-unfoldable pub changed : Device → ℕ → Device
-changed d mode = raised (with-acting d mode) mchg
+unfoldable pub modeChanged : Device → ℕ → Device
+modeChanged d mode = raised (with-acting d mode) mchg
 
--- 000, CTRL0: "Setting this bit causes HI-3110 reset to occur", and the bit stays until the host clears it.
--- "Any other mode write withdraws a waiting sleep" by what MODE then names. "If it names a mode other than the acting one, it acts at
--- once and ends a running transmission as an abort does, TXEN and TX1M kept; if not, no transmission is touched". A sleep is only waited for;
--- "A sleep write while asleep leaves the mode as it is; the byte's other bits act."
+-- 000, CTRL0: "Setting this bit causes HI-3110 reset to occur", and the bit stays until the host clears it. "Any
+-- other mode write withdraws a waiting sleep" by what MODE then names. "If it names a mode other than the acting one,
+-- it acts at once and ends a running transmission as an abort does, TXEN and TX1M kept; if not, no transmission is
+-- touched". A sleep is only waited for; "A sleep write while asleep leaves the mode as it is; the byte's other bits
+-- act."
 unfoldable pub writeCtrl0 : Device → ℕ → Device
 writeCtrl0 d v =
     pick (resetBit v) (put-ctrl0 (reset d) 0x88)
     (pick (eqb (modeOf v) sleep) (put-ctrl0 d v)
     (pick (eqb (modeOf v) (d .acting)) (put-ctrl0 d v)
-    (changed (stopped (put-ctrl0 d v)) (modeOf v))))
+    (modeChanged (stopped (put-ctrl0 d v)) (modeOf v))))
 
 -- "Sleep begins at the first bus-quiet event with the transmit FIFO empty and none in flight"
 unfoldable pub canSleep : Device → Bool
@@ -35,11 +36,11 @@ canSleep d =
     eqb (modeOf (d .regs .ctrl0)) sleep && (not (eqb (d .acting) sleep) && (isEmpty (d .tx) && eqb (d .sending) idle))
 
 unfoldable pub busQuiet : Device → Device
-busQuiet d = pick (canSleep d) (changed d sleep) d
+busQuiet d = pick (canSleep d) (modeChanged d sleep) d
 
 -- "With WAKEUP set, a bus activity event or a good frame in sleep brings monitor mode, and MODE then reads 010"
 unfoldable pub busActivity : Device → Device
 busActivity d =
     pick (eqb (d .acting) sleep && wakeup d)
-    (raised (changed (put-ctrl0 d (d .regs .ctrl0 % 32 + 64)) monitor) wakeupFlag)
+    (raised (modeChanged (put-ctrl0 d (d .regs .ctrl0 % 32 + 64)) monitor) wakeupFlag)
     d

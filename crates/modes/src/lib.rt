@@ -1,14 +1,14 @@
 // The modes: how one comes to act.
 ghost use mathlib.Core.Path.{_≡_};
-ghost use Rattle.modes.specs.Modes.{changed, writeCtrl0, canSleep, busQuiet, busActivity};
+ghost use Rattle.modes.specs.Modes.{modeChanged, writeCtrl0, canSleep, busQuiet, busActivity};
 use chip::Device;
 use chip::IDLE;
 use chip::MONITOR;
 use chip::SLEEP;
 
 // Another mode acts.
-fn changed(d: Device, mode: u8) -> Device
-    ensures { λ r. ⌜ r ≡ changed d mode ⌝ }
+fn mode_changed(d: Device, mode: u8) -> Device
+    ensures { λ r. ⌜ r ≡ modeChanged d mode ⌝ }
 {
     let mut e = d;
     e.acting = mode;
@@ -21,7 +21,7 @@ pub fn write_ctrl0(d: Device, value: u8) -> Device
 {
     let acting = d.acting;
     let named = chip::mode_of(value);
-    if (value >> 3) % 2 == 1 {
+    if chip::reset_bit(value) {
         let mut e = flags::reset(d);
         e.regs.ctrl0 = 0x88;
         return e;
@@ -35,7 +35,7 @@ pub fn write_ctrl0(d: Device, value: u8) -> Device
         return e;
     }
     let f = transmit::stopped(e);
-    changed(f, named)
+    mode_changed(f, named)
 }
 
 fn can_sleep(d: Device) -> bool
@@ -43,7 +43,7 @@ fn can_sleep(d: Device) -> bool
 {
     (chip::mode_of(d.regs.ctrl0) == SLEEP)
         & (d.acting != SLEEP)
-        & (d.tx.count == 0)
+        & fifo::is_empty(d.tx)
         & (d.sending == IDLE)
 }
 
@@ -51,7 +51,11 @@ fn can_sleep(d: Device) -> bool
 pub fn bus_quiet(d: Device) -> Device
     ensures { λ r. ⌜ r ≡ busQuiet d ⌝ }
 {
-    if can_sleep(d) { changed(d, SLEEP) } else { d }
+    if can_sleep(d) {
+        mode_changed(d, SLEEP)
+    } else {
+        d
+    }
 }
 
 // Something moves on the bus: with WAKEUP set, a sleeping device wakes into monitor mode.
@@ -59,11 +63,11 @@ pub fn bus_activity(d: Device) -> Device
     ensures { λ r. ⌜ r ≡ busActivity d ⌝ }
 {
     let ctrl0 = d.regs.ctrl0;
-    if (d.acting == SLEEP) & ((ctrl0 >> 4) % 2 == 1) {
+    if (d.acting == SLEEP) & chip::wakeup(d) {
         let woken = ctrl0 % 32 + 64;
         let mut e = d;
         e.regs.ctrl0 = woken;
-        let f = changed(e, MONITOR);
+        let f = mode_changed(e, MONITOR);
         flags::raised(f, flags::WAKEUP)
     } else {
         d

@@ -68,6 +68,18 @@ module _ (M : Type 1) where
   pub fifo·empty : OneResult M fifo.empty.ended fifo.empty.spec
   fifo·empty = result fifo.empty.clauses (λ _. Queue.empty) refl
 
+  pub fifo·eight-wait : OneResult M fifo.eight_wait.ended fifo.eight_wait.spec
+  fifo·eight-wait = result fifo.eight_wait.clauses (λ _. Queue.eightWait) refl
+
+  pub fifo·none-waits : OneResult M fifo.none_waits.ended fifo.none_waits.spec
+  fifo·none-waits = result fifo.none_waits.clauses (λ _. Queue.noneWaits) refl
+
+  pub fifo·full : OneResult M fifo.full.ended fifo.full.spec
+  fifo·full = result fifo.full.clauses (λ _. Queue.full) refl
+
+  pub fifo·is-empty : OneResult M fifo.is_empty.ended fifo.is_empty.spec
+  fifo·is-empty = result fifo.is_empty.clauses (λ _. Queue.isEmpty) refl
+
   pub fifo·put : OneResult M fifo.put.ended fifo.put.spec
   fifo·put = result fifo.put.clauses (λ _. Queue.put) refl
 

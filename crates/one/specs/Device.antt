@@ -1,4 +1,5 @@
--- One result for each public function of chip, line, drawn, flags, transmit and modes. `Frames` says how to read a line.
+-- One result for each public function of chip, line, drawn, flags, transmit and modes. `Frames` says how to read a
+-- line.
 use mathlib.Core.Path.{refl}
 use denote.Ref.{now}
 use Rattle.chip.specs.State
@@ -25,6 +26,21 @@ module _ (M : Type 1) where
 
   pub chip·mode-of : OneResult M chip.mode_of.ended chip.mode_of.spec
   chip·mode-of = result chip.mode_of.clauses (λ _. State.modeOf) refl
+
+  pub chip·reset-bit : OneResult M chip.reset_bit.ended chip.reset_bit.spec
+  chip·reset-bit = result chip.reset_bit.clauses (λ _. State.resetBit) refl
+
+  pub chip·bor : OneResult M chip.bor.ended chip.bor.spec
+  chip·bor = result chip.bor.clauses (λ _. State.bor) refl
+
+  pub chip·wakeup : OneResult M chip.wakeup.ended chip.wakeup.spec
+  chip·wakeup = result chip.wakeup.clauses (λ _. State.wakeup) refl
+
+  pub chip·osm : OneResult M chip.osm.ended chip.osm.spec
+  chip·osm = result chip.osm.clauses (λ _. State.osm) refl
+
+  pub chip·filton : OneResult M chip.filton.ended chip.filton.spec
+  chip·filton = result chip.filton.clauses (λ _. State.filton) refl
 
   pub chip·enabled : OneResult M chip.enabled.ended chip.enabled.spec
   chip·enabled = result chip.enabled.clauses (λ _. State.enabled) refl
@@ -84,8 +100,8 @@ module _ (M : Type 1) where
   pub transmit·cleared : OneResult M transmit.cleared.ended transmit.cleared.spec
   transmit·cleared = result transmit.cleared.clauses (λ _. Transmit.cleared) refl
 
-  pub transmit·sent : OneResult M transmit.sent.ended transmit.sent.spec
-  transmit·sent = result transmit.sent.clauses (λ _. Transmit.sent) refl
+  pub transmit·transmitted : OneResult M transmit.transmitted.ended transmit.transmitted.spec
+  transmit·transmitted = result transmit.transmitted.clauses (λ _. Transmit.transmitted) refl
 
   -- ---- modes
   pub modes·write-ctrl0 : OneResult M modes.write_ctrl0.ended modes.write_ctrl0.spec

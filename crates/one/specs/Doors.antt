@@ -1,5 +1,5 @@
--- One result for each public function of receive, refused, shown, done, host, judged, changed and bus. `Frames` says how to read
--- a line.
+-- One result for each public function of receive, refused, shown, done, host, judged, changed and bus. `Frames` says
+-- how to read a line.
 use mathlib.Core.Path.{refl}
 use lib.ListN.{length}
 use base.Stored.{codedList, codedℕ}
@@ -31,6 +31,9 @@ module _ (M : Type 1) where
 
   pub receive·filters-and-room : OneResult M receive.filters_and_room.ended receive.filters_and_room.spec
   receive·filters-and-room = result receive.filters_and_room.clauses (λ _. Receive.filtersAndRoom) refl
+
+  pub receive·own-frame : OneResult M receive.own_frame.ended receive.own_frame.spec
+  receive·own-frame = result receive.own_frame.clauses (λ _. Receive.ownFrame) refl
 
   pub receive·arrived : OneResult M receive.arrived.ended receive.arrived.spec
   receive·arrived = result receive.arrived.clauses (λ _. Receive.arrived) refl

@@ -1,6 +1,7 @@
--- One result for each public function of base, commands, frame, sent and filter.
--- The first line of each names the contract that the function's theorem states, the second the definition that it equates the
--- result or the lent memory with, as a function of the parameters (`λ _` passes over the lifetimes). `Law` says what it is to leave one result.
+-- One result for each public function of base, commands, frame, to_send and filter. The first line of each names the
+-- contract that the function's theorem states, the second the definition that it equates the result or the lent
+-- memory with, as a function of the parameters (`λ _` passes over the lifetimes). `Law` says what it is to leave one
+-- result.
 use mathlib.Core.Path.{refl}
 use Prim.Native.Nat.{_≤_}
 use lib.ListN.{getD}
@@ -12,13 +13,13 @@ use Rattle.commands.specs.Table
 use Rattle.frame.specs.Length
 use Rattle.frame.specs.Tables
 use Rattle.frame.specs.Received
-use Rattle.sent.specs.Sent
+use Rattle.to_send.specs.ToSend
 use Rattle.filter.specs.Match
 use Rattle.filter.specs.Lowest
 use Rattle.base.proofs as base
 use Rattle.commands.proofs as commands
 use Rattle.frame.proofs as frame
-use Rattle.sent.proofs as sent
+use Rattle.to_send.proofs as to_send
 use Rattle.filter.proofs as filter
 use Rattle.one.specs.Law.{OneResult}
 use Rattle.one.specs.Shapes.{result, result-and, content}
@@ -74,15 +75,15 @@ module _ (M : Type 1) where
   pub frame·data-in : OneResult M frame.data_in.ended frame.data_in.spec
   frame·data-in = result frame.data_in.clauses (λ _. Received.dataIn) refl
 
-  -- ---- sent
-  pub sent·right-length : OneResult M sent.right_length.ended sent.right_length.spec
-  sent·right-length = result sent.right_length.clauses (λ _ s. Sent.rightLength (now s)) refl
+  -- ---- to_send
+  pub to-send·right-length : OneResult M to_send.right_length.ended to_send.right_length.spec
+  to-send·right-length = result to_send.right_length.clauses (λ _ s. ToSend.rightLength (now s)) refl
 
-  pub sent·message-of : OneResult M sent.message_of.ended sent.message_of.spec
-  sent·message-of = result sent.message_of.clauses (λ _ s. Sent.messageOf (now s)) refl
+  pub to-send·message-of : OneResult M to_send.message_of.ended to_send.message_of.spec
+  to-send·message-of = result to_send.message_of.clauses (λ _ s. ToSend.messageOf (now s)) refl
 
-  pub sent·stored : OneResult M sent.stored.ended sent.stored.spec
-  sent·stored = result sent.stored.clauses (λ _. Sent.stored) refl
+  pub to-send·stored : OneResult M to_send.stored.ended to_send.stored.spec
+  to-send·stored = result to_send.stored.clauses (λ _. ToSend.stored) refl
 
   -- ---- filter
   pub filter·matches : OneResult M filter.matches.ended filter.matches.spec

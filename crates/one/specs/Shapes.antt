@@ -1,5 +1,6 @@
--- The law for each shape that a contract here has. A line of the lists beside this file names a definition, and its `refl` is
--- where the checker holds that equation against the generated contract; of a struct behind a reference, the law's own type is.
+-- The law for each shape that a contract here has. A line of the lists beside this file names a definition, and its
+-- `refl` is where the checker holds that equation against the generated contract; of a struct behind a reference, the
+-- law's own type is.
 use mathlib.Core.Path.{_≡_, refl, sym, _∙_, subst}
 use mathlib.Core.List.{List, [], _∷_}
 use Prim.Native.Nat.{ℕ}

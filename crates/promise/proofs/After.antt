@@ -1,5 +1,5 @@
--- In any device that holds what the records have every answer is the one that is due, and so it goes on: after every sequence
--- from a fresh one, too. Assumes nothing.
+-- In any device that holds what the records have every answer is the one that is due, and so it goes on: after every
+-- sequence from a fresh one, too. Assumes nothing.
 use mathlib.Core.Path.{_≡_, refl, sym, _∙_, ap}
 use mathlib.Core.Bool.{Bool, true, false, not}
 use mathlib.Core.List.{List, [], _∷_, _++_, foldl}
@@ -214,8 +214,8 @@ whole is = always is .whole
 pub as-arrived : FieldsStandAsTheyArrived
 as-arrived is = always is .arrived
 
-pub sent : OwnMessagesAreThoseWritten
-sent is = always is .sent
+pub as-written : OwnMessagesAreThoseWritten
+as-written is = always is .written
 
 -- ---- by what was answered
 

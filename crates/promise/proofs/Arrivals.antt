@@ -25,7 +25,7 @@ use Rattle.chip.specs.State.{filton, bank}
 use Rattle.flags.specs.Flags.{raised}
 use Rattle.receive.specs.declared.Arrival.{Arrival}
 use Rattle.receive.specs.declared.Arrival.the-variants.{Queued, A1, A2, A3, A4, A5}
-use Rattle.receive.specs.Receive.{hit, room, passed, answered as filtered, filtersAndRoom, isQueued, queuedFlag, filterFlag, queueAfter, message as messageAt, arrived}
+use Rattle.receive.specs.Receive.{hit, queuedUnlessFull, passed, byHit, filtersAndRoom, isQueued, queuedFlag, filterFlag, queueAfter, message as messageAt, arrived}
 use Rattle.judged.specs.Judged.{quietMode, takesNoFrames, unacknowledged, reason}
 use Rattle.changed.specs.Changed.{countedFrame, heard as heardAt, reachesTemporary, frameAfter}
 use Rattle.bus.specs.Event.{reasonOf}
@@ -33,8 +33,8 @@ use Rattle.promise.specs.Counting.{frameHeard}
 use Rattle.promise.specs.Flags.{rxtmp, rxfifo, f0mess, f1mess, raise, together}
 use Rattle.promise.specs.Filters.{compared}
 use Rattle.promise.specs.Frames.{Frame, message}
-use Rattle.promise.specs.Ledger.{left, accepts, firstTrue, fromTheBus, reasons}
-use Rattle.promise.specs.Arrivals.{filhitNow, arriving}
+use Rattle.promise.specs.Ledger.{left, accepts}
+use Rattle.promise.specs.Arrivals.{filhitNow, arriving, firstTrue, fromTheBus, reasons}
 use Rattle.promise.specs.Noted.{reaches, heard, frameMet}
 use Rattle.promise.specs.Records.{Records}
 use Rattle.promise.specs.Settings.{Settings, patterns, filton as filtonBit}
@@ -127,8 +127,8 @@ by-bus false false false what = refl
 
 -- the filters, then the room
 by-match : (d : Device) (t : Bool) (found : Hit)
-    → reasonOf (pick t (passed d found) (room d)) ≡ pick (t && eqb (filhit found) 0) 4 (pick (full (d .rx)) 5 0)
-unfolding passed filhit room reasonOf
+    → reasonOf (pick t (passed d found) (queuedUnlessFull d)) ≡ pick (t && eqb (filhit found) 0) 4 (pick (full (d .rx)) 5 0)
+unfolding passed filhit queuedUnlessFull reasonOf
 by-match d true (Filter k) = rw (ne-eqb (8 + k % 8) 0 (λ e. omega arith)) (pick-part reasonOf (full (d .rx)) A5 Queued)
 by-match d true Nothing = refl
 by-match d false found = pick-part reasonOf (full (d .rx)) A5 Queued
@@ -163,7 +163,7 @@ module _ (d : Device) (r : Records) (h : Kept d r) where
     -- ---- what it is told
 
     pub own-due : reasonOf (filtersAndRoom d header payload) ≡ firstTrue (reasons (filtonBit (r .settings)) (r .ledger) f [])
-    unfolding filtersAndRoom filtered
+    unfolding filtersAndRoom byHit
     own-due =
         by-match d (filton d) (hit d header payload)
         ∙ rw (filhit-same, left-waits (d .rx) (r .ledger) (h .3 .2))

@@ -1,4 +1,5 @@
--- Filters and masks: as the device stores them, as the match takes them, and as the settings have them. Assumes nothing.
+-- Filters and masks: as the device stores them, as the match takes them, and as the settings have them. Assumes
+-- nothing.
 use mathlib.Core.Path.{_≡_, refl, sym, _∙_, ap}
 use mathlib.Core.List.{List, [], _∷_, map}
 use Prim.Native.Nat.{ℕ, zero, suc}

@@ -15,13 +15,13 @@ use Rattle.fifo.proofs.Waiting.{put-waits, take-waits}
 use Rattle.chip.specs.State.{idle, firstInFifo}
 use Rattle.transmit.specs.Transmit.{leftAlone, stamped, fifoAfter, tagBits}
 use Rattle.promise.specs.Outbox.{Running, none, first, alone, Outbox, emptied, queued, begun, halted, aloneAfter, clearedOut, inFlight}
-use Rattle.promise.specs.Outbox.{remaining, sent, entryTaken, rests}
+use Rattle.promise.specs.Outbox.{remaining, transmitted, entryTaken, rests}
 use Rattle.promise.specs.Held.{Each, Runs, entryOf, Entry}
-use Rattle.promise.specs.Own.{Own, noMessage, kept, Sendable}
+use Rattle.promise.specs.Own.{Own, noMessage, ownMessage, Sendable}
 use Rattle.promise.proofs.Choices.{pick-keeps}
 use Rattle.promise.proofs.Each.{each-more, each-rest}
 use Rattle.promise.proofs.Queues.{waiting-length, taken-items, put-items}
-use Rattle.promise.proofs.Own.{kept-few, none-sendable}
+use Rattle.promise.proofs.Own.{own-few, none-sendable}
 
 -- ---- the messages that wait
 
@@ -47,7 +47,7 @@ stamped-entry m time few = rw (length-drop 3 (m .bytes)) (omega arith, omega ari
 
 pub record Boxed (tx : Fifo) (buffer : Message) (sending : ℕ) (history : Fifo) (mtag : ℕ) (o : Outbox) : Type 0 where
   pub places : length (tx .items) ≡ 8
-  pub queue : waiting tx ≡ map kept (o .queue)
+  pub queue : waiting tx ≡ map ownMessage (o .queue)
   pub runs : Runs sending buffer (o .running)
   pub pages : length (history .items) ≡ 8
   pub entries : map entryOf (waiting history) ≡ o .history
@@ -78,7 +78,7 @@ map-rest f (x ∷ xs) = refl
 
 module _ (tx : Fifo) (buffer : Message) (sending : ℕ) (history : Fifo) (mtag : ℕ) (o : Outbox) (h : Boxed tx buffer sending history mtag o) where
   pub queue-length : length (o .queue) ≡ tx .count
-  queue-length = sym (length-map (o .queue) kept) ∙ rw (← h .queue) (waiting-length tx)
+  queue-length = sym (length-map (o .queue) ownMessage) ∙ rw (← h .queue) (waiting-length tx)
 
   pub history-length : length (o .history) ≡ history .count
   history-length = rw (← h .entries, length-map (waiting history) entryOf) (waiting-length history)
@@ -93,12 +93,12 @@ module _ (tx : Fifo) (buffer : Message) (sending : ℕ) (history : Fifo) (mtag :
   rests-same = rests-cases (o .running) (h .runs)
 
   -- the message that runs is in the transmit buffer
-  buffer-cases : (r : Running) → Runs sending buffer r → rests r ≡ false → buffer ≡ kept (inFlight r)
+  buffer-cases : (r : Running) → Runs sending buffer r → rests r ≡ false → buffer ≡ ownMessage (inFlight r)
   buffer-cases none runs some = absurd (false≢true (sym some))
   buffer-cases (first m) runs some = runs .1
   buffer-cases (alone m) runs some = runs .1
 
-  pub buffer-runs : rests (o .running) ≡ false → buffer ≡ kept (inFlight (o .running))
+  pub buffer-runs : rests (o .running) ≡ false → buffer ≡ ownMessage (inFlight (o .running))
   buffer-runs some = buffer-cases (o .running) (h .runs) some
 
   pub halted-boxed : Boxed tx buffer idle history mtag (halted o)
@@ -115,12 +115,12 @@ module _ (tx : Fifo) (buffer : Message) (sending : ℕ) (history : Fifo) (mtag :
   }
 
   -- 0x12 that finds room
-  pub written-boxed : (m : Own) → Sendable m → full tx ≡ false → Boxed (put tx (kept m)) buffer sending history mtag (queued o m)
+  pub written-boxed : (m : Own) → Sendable m → full tx ≡ false → Boxed (put tx (ownMessage m)) buffer sending history mtag (queued o m)
   written-boxed m sendable room = record {
-    places = put-items tx (kept m) ∙ h .places;
+    places = put-items tx (ownMessage m) ∙ h .places;
     queue =
-        put-waits tx (kept m) (h .places) (leb-false 8 (tx .count) room)
-        ∙ rw map-append (ap (λ (w : List Message). w ++ (kept m ∷ [])) (h .queue));
+        put-waits tx (ownMessage m) (h .places) (leb-false 8 (tx .count) room)
+        ∙ rw map-append (ap (λ (w : List Message). w ++ (ownMessage m ∷ [])) (h .queue));
     runs = h .runs;
     pages = h .pages;
     entries = h .entries;
@@ -152,10 +152,10 @@ module _ (tx : Fifo) (buffer : Message) (sending : ℕ) (history : Fifo) (mtag :
   }
 
   -- the first of a queue that isn't empty
-  next-first : (n : ℕ) → tx .count ≡ suc n → next tx ≡ kept (getD (o .queue) 0 noMessage)
+  next-first : (n : ℕ) → tx .count ≡ suc n → next tx ≡ ownMessage (getD (o .queue) 0 noMessage)
   next-first n some =
-      ap (λ (ms : List Message). getD ms 0 (kept noMessage)) (sym (take-waits tx n some) ∙ h .queue)
-      ∙ List·getD-map kept (o .queue) 0 noMessage
+      ap (λ (ms : List Message). getD ms 0 (ownMessage noMessage)) (sym (take-waits tx n some) ∙ h .queue)
+      ∙ List·getD-map ownMessage (o .queue) 0 noMessage
 
   pub begun-boxed : leb 1 (tx .count) ≡ true → Boxed tx (next tx) firstInFifo history mtag (begun o)
   begun-boxed some =
@@ -172,11 +172,11 @@ module _ (tx : Fifo) (buffer : Message) (sending : ℕ) (history : Fifo) (mtag :
         flying = first-sendable (o .queue) (h .sendable);
       }
 
-  sent-queue : (r : Running) → Runs sending buffer r → waiting (fifoAfter tx sending) ≡ map kept (remaining (o .queue) r)
+  transmitted-queue : (r : Running) → Runs sending buffer r → waiting (fifoAfter tx sending) ≡ map ownMessage (remaining (o .queue) r)
   unfolding fifoAfter
-  sent-queue none runs = rw runs (h .queue)
-  sent-queue (first m) runs = rw (runs .0) (taken-waits tx ∙ ap (drop 1) (h .queue) ∙ sym (map-rest kept (o .queue)))
-  sent-queue (alone m) runs = rw (runs .0) (h .queue)
+  transmitted-queue none runs = rw runs (h .queue)
+  transmitted-queue (first m) runs = rw (runs .0) (taken-waits tx ∙ ap (drop 1) (h .queue) ∙ sym (map-rest ownMessage (o .queue)))
+  transmitted-queue (alone m) runs = rw (runs .0) (h .queue)
 
   -- an entry more, unless there are eight
   entered-same : (t : Bool) (m : Message) → leb 8 (history .count) ≡ t
@@ -192,17 +192,17 @@ module _ (tx : Fifo) (buffer : Message) (sending : ℕ) (history : Fifo) (mtag :
   bound-more false m is fits =
       rw (put-waits history m (h .pages) (leb-false 8 (history .count) is)) (each-more Entry (waiting history) m (h .bound) fits)
 
-  pub sent-boxed : (time : ℕ) → rests (o .running) ≡ false
-      → Boxed (fifoAfter tx sending) buffer idle (put history (stamped buffer time)) (tagBits buffer) (sent o time)
+  pub transmitted-boxed : (time : ℕ) → rests (o .running) ≡ false
+      → Boxed (fifoAfter tx sending) buffer idle (put history (stamped buffer time)) (tagBits buffer) (transmitted o time)
   unfolding fifoAfter stamped
-  sent-boxed time some = record {
+  transmitted-boxed time some = record {
     places = pick-keeps (λ (q : Fifo). length (q .items) ≡ 8) (eqb sending firstInFifo) (takeOff tx) tx (rw (taken-items tx) (h .places)) (h .places);
-    queue = sent-queue (o .running) (h .runs);
+    queue = transmitted-queue (o .running) (h .runs);
     runs = refl;
     pages = put-items history (stamped buffer time) ∙ h .pages;
-    entries = rw (history-length, buffer-runs some) (entered-same (leb 8 (history .count)) (stamped (kept (inFlight (o .running))) time) refl);
+    entries = rw (history-length, buffer-runs some) (entered-same (leb 8 (history .count)) (stamped (ownMessage (inFlight (o .running))) time) refl);
     tag = rw (buffer-runs some);
-    bound = bound-more (leb 8 (history .count)) (stamped buffer time) refl (stamped-entry buffer time (rw (buffer-runs some) (kept-few (inFlight (o .running)) (h .flying))));
+    bound = bound-more (leb 8 (history .count)) (stamped buffer time) refl (stamped-entry buffer time (rw (buffer-runs some) (own-few (inFlight (o .running)) (h .flying))));
     sendable = remaining-sendable (o .queue) (o .running) (h .sendable);
     flying = none-sendable;
   }

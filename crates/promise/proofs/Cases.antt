@@ -32,7 +32,7 @@ pub data Case : Type 0 where
   mistimed : Machine → List Input → Case
   unseen : Machine → List Input → Case
   unraised : Machine → List Input → Case
-  unsent : Machine → List Input → Case
+  unwritten : Machine → List Input → Case
   unlike : Machine → List Input → Case
   -- a way to look at the pins
   misshown : (Device → Pins) → List Input → Case
@@ -145,7 +145,7 @@ odd-holds = record {
   latest = fresh-holds .latest;
   whole = fresh-holds .whole;
   arrived = fresh-holds .arrived;
-  sent = fresh-holds .sent;
+  written = fresh-holds .written;
   remembered = fresh-holds .remembered;
   sendable = fresh-holds .sendable;
 }
@@ -184,8 +184,8 @@ cases =
     unseen errsExchanged error ∷
     unraised intfKept (error ++ spi (0x56 ∷ []) [] ∷ []) ∷
     unraised filtonIgnored (toNormal ∷ scan 1 ∷ []) ∷
-    unsent oldCompletion completedAlone ∷
-    unsent nothingCopied begun ∷
+    unwritten oldCompletion completedAlone ∷
+    unwritten nothingCopied begun ∷
     unlike leisurely (toNormal ∷ wire (Ticks 1) [] ∷ scan 1 ∷ []) ∷
     misshown intByStatfe (spi (0x1C ∷ 0x40 ∷ []) [] ∷ toNormal ∷ scan 1 ∷ []) ∷
     unlikeItself believesAll (toNormal ∷ impossible ∷ []) ∷

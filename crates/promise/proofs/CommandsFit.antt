@@ -18,8 +18,8 @@ use Rattle.chip.specs.State.{fresh, modeOf, sleep, idle, firstInFifo, alone, re
 use Rattle.flags.specs.Flags.{raised}
 use Rattle.flags.specs.Reset.{reset}
 use Rattle.transmit.specs.Transmit.{aborted, cleared, leftAlone, stopped}
-use Rattle.modes.specs.Modes.{changed, writeCtrl0}
-use Rattle.done.specs.Done.{settings, registersAfter, registerChanged, messageTaken, entryTaken, receiveCleared, timeReset, messageWritten, filterWritten}
+use Rattle.modes.specs.Modes.{modeChanged, writeCtrl0}
+use Rattle.done.specs.Done.{registerDeeds, registersAfter, registerChanged, messageTaken, entryTaken, receiveCleared, timeReset, messageWritten, filterWritten}
 use Rattle.done.specs.Done.{maskWritten, recWritten, tecWritten, deeds, does}
 use Rattle.promise.proofs.Among.{_and_, among-keeps}
 use Rattle.promise.proofs.Choices.{pick-under}
@@ -53,7 +53,7 @@ module _ (d : Device) (h : InRange d) where
   )
 
   ctrl0-in : (v : ℕ) → InRange (writeCtrl0 d v)
-  unfolding writeCtrl0 changed raised stopped reset fresh modeOf
+  unfolding writeCtrl0 modeChanged raised stopped reset fresh modeOf
   ctrl0-in v =
       pick-under InRange (resetBit v) _ _
       (λ resets. (empty-fits, empty-fits, empty-fits, h .3, h .4, refl, refl, refl, refl))
@@ -68,7 +68,7 @@ module _ (d : Device) (h : InRange d) where
   register-in v value =
       among-keeps
       (λ v (r : Registers). Ranges (d .rx) (d .tx) (d .history) (d .counters .groups) (r .errs) (r .mtag) (r .filhit) (d .sending) (d .acting) (r .ctrl0))
-      v (settings (d .regs) value) (d .regs)
+      v (registerDeeds (d .regs) value) (d .regs)
       ((h .0, h .1, h .2, h .3, refl, h .5, h .6, h .7, h .8) and h and h and h and h and h and h and h and tt)
       (λ out. h)
 

@@ -24,7 +24,7 @@ use Rattle.done.specs.Done.{filterWritten, maskWritten, recWritten, tecWritten,
 use Rattle.promise.specs.Counting.{recWritten as recMoved, tecWritten as tecMoved}
 use Rattle.promise.specs.Ledger.{takes}
 use Rattle.promise.specs.Outbox.{queued}
-use Rattle.promise.specs.Own.{messageFits, messageWritten as message, kept}
+use Rattle.promise.specs.Own.{messageFits, messageWritten as message, ownMessage}
 use Rattle.promise.specs.Noted.{deeds, commanded}
 use Rattle.promise.specs.Held.{Banked}
 use Rattle.promise.specs.Records.{Records, with-ledger, with-outbox, with-settings}
@@ -37,7 +37,7 @@ use Rattle.promise.proofs.Kept.{Kept}
 use Rattle.promise.proofs.ModesKept.{reset-kept, ctrl0-kept}
 use Rattle.promise.proofs.Queues.{empty-holds, takes-holds}
 use Rattle.promise.proofs.Rows.{AtRows, at-row}
-use Rattle.promise.proofs.Own.{fits-same, written-sendable, stored-kept}
+use Rattle.promise.proofs.Own.{fits-same, written-sendable, stored-own}
 
 pub banked-set : (ps : List Pattern) (k : ℕ) (bytes : List ℕ) → Banked ps → Banked (set ps k (pattern bytes))
 unfolding pattern
@@ -76,7 +76,7 @@ module _ (d : Device) (r : Records) (h : Kept d r) (bytes : List ℕ) (some : eq
   written a =
       let s = drop 1 bytes in
       let fits = fits-same s ∙ a .2 in
-      let same-message : brought bytes ≡ kept (message s) = ap (λ (b : List ℕ). record { bytes = b }) (stored-kept s fits) in
+      let same-message : brought bytes ≡ ownMessage (message s) = ap (λ (b : List ℕ). record { bytes = b }) (stored-own s fits) in
       rw (some, same-message) (h .0, h .1, h .2, h .3, written-boxed _ _ _ _ _ _ (h .4) (message s) (written-sendable s fits) (a .0))
 
   filter : (k : ℕ) {A : Type 0} → A

@@ -14,8 +14,8 @@ use Rattle.frame.specs.declared.Header.{Header}
 use Rattle.chip.specs.declared.Device.{Device}
 use Rattle.chip.specs.State.{modeOf, normal, sleep, monitor, bor, wakeup, idle, firstInFifo, loopback}
 use Rattle.flags.specs.Flags.{raised, busError}
-use Rattle.transmit.specs.Transmit.{stopped, begun, canBegin, sent, fifoAfter, countedCompletion}
-use Rattle.modes.specs.Modes.{changed, busQuiet, busActivity, canSleep}
+use Rattle.transmit.specs.Transmit.{stopped, begun, canBegin, transmitted, fifoAfter, countedCompletion}
+use Rattle.modes.specs.Modes.{modeChanged, busQuiet, busActivity, canSleep}
 use Rattle.receive.specs.declared.Arrival.{Arrival}
 use Rattle.receive.specs.Receive.{arrived, hit, queueAfter, isQueued}
 use Rattle.events.specs.declared.ErrorKind.{ErrorKind}
@@ -52,14 +52,14 @@ module _ (d : Device) (h : InRange d) where
   )
 
   activity-in : InRange (busActivity d)
-  unfolding busActivity changed raised
+  unfolding busActivity modeChanged raised
   activity-in =
       pick-under InRange (eqb (d .acting) sleep && wakeup d) _ _
       (λ wakes. (h .0, h .1, h .2, h .3, h .4, h .5, h .6, h .7, rw (woken (d .regs .ctrl0))))
       (λ stays. h)
 
   quiet-in : InRange (busQuiet d)
-  unfolding busQuiet changed raised canSleep
+  unfolding busQuiet modeChanged raised canSleep
   quiet-in =
       pick-under InRange (canSleep d) _ _
       (λ sleeps. (h .0, h .1, h .2, h .3, h .4, h .5, h .6, h .7, rw (and-left (eqb (modeOf (d .regs .ctrl0)) sleep) _ sleeps)))
@@ -98,9 +98,9 @@ module _ (d : Device) (h : InRange d) where
       (λ on. pick-under Grouped (ltb 255 (d .counters .tec + 8)) _ _ (λ over. refl) (λ under. h .3))))
       (λ exempt. h .3)
 
-  sent-error-in : (kind : ErrorKind) (counted : Bool) → InRange (transmitErrorMet d kind counted)
+  transmit-error-in : (kind : ErrorKind) (counted : Bool) → InRange (transmitErrorMet d kind counted)
   unfolding transmitErrorMet stopped busError raised
-  sent-error-in kind counted =
+  transmit-error-in kind counted =
       (h .0, h .1, h .2, transmit-groups counted, errors-in kind, h .5, h .6, refl, h .8)
 
   completion-groups : leb (countedCompletion (d .counters) (d .acting) .groups) 128 ≡ true
@@ -110,9 +110,9 @@ module _ (d : Device) (h : InRange d) where
       (λ stands. h .3)
       (λ moves. pick-under Grouped (d .counters .busoff) _ _ (λ off. h .3) (λ on. h .3))
 
-  sent-in : InRange (sent d)
-  unfolding sent raised fifoAfter
-  sent-in = (
+  transmitted-in : InRange (transmitted d)
+  unfolding transmitted raised fifoAfter
+  transmitted-in = (
     h .0,
     pick-under (λ q. inRange q ≡ true) (eqb (d .sending) firstInFifo) _ _ (λ own. take-fits (d .tx) (h .1)) (λ gone. h .1),
     put-fits (d .history) _ (h .2),
@@ -162,7 +162,7 @@ module _ (d : Device) (h : InRange d) where
 -- in loopback the own message arrives first
 echoed-in : (d : Device) → InRange d → (what : Arrival) → InRange (echoed d what)
 unfolding echoed
-echoed-in d h what = sent-in (arrived d _ _ what) (arrived-in d h _ _ what)
+echoed-in d h what = transmitted-in (arrived d _ _ what) (arrived-in d h _ _ what)
 
 -- every event that is possible
 pub event-in : (d : Device) → InRange d → (e : Event) (payload : List ℕ) → impossible d e ≡ false → InRange (outcome d e payload (said d e payload) .device)
@@ -171,10 +171,10 @@ event-in d h (GoodFrame header acknowledged n) payload possible = frame-in d h h
 event-in d h Completed payload possible =
     pick-under (λ (a : Answer). InRange (outcome d Completed payload a .device)) (eqb (d .acting) loopback) _ _
     (λ own. echoed-in d h _)
-    (λ elsewhere. sent-in d h)
+    (λ elsewhere. transmitted-in d h)
 event-in d h (ReceiveError kind) payload possible = received-in d h kind
 event-in d h DominantBit payload possible = dominant-in d h
-event-in d h (TransmitError kind counted) payload possible = sent-error-in d h kind counted
+event-in d h (TransmitError kind counted) payload possible = transmit-error-in d h kind counted
 event-in d h Begun payload possible = begun-in d h (not-false (canBegin d) possible)
 event-in d h ArbitrationLost payload possible = stopped-in d h
 event-in d h ElevenRecessive payload possible = recessive-in d h

@@ -16,7 +16,7 @@ use Rattle.frame.specs.Length.{possible, dataFits}
 use Rattle.chip.specs.declared.Device.{Device}
 use Rattle.chip.specs.State.{loopback, idle, bor}
 use Rattle.flags.specs.Flags.{raised, busError}
-use Rattle.transmit.specs.Transmit.{canBegin, withoutTx1m as cleared6, ctrl1Begun, begun, stopped, countedCompletion, sent}
+use Rattle.transmit.specs.Transmit.{canBegin, withoutTx1m as cleared6, ctrl1Begun, begun, stopped, countedCompletion, transmitted}
 use Rattle.receive.specs.declared.Arrival.{Arrival}
 use Rattle.receive.specs.Receive.{arrived, filtersAndRoom, ownHeader, ownData}
 use Rattle.events.specs.declared.ErrorKind.{ErrorKind}
@@ -41,7 +41,7 @@ use Rattle.promise.specs.Own.{Own}
 use Rattle.promise.specs.Records.{Records}
 use Rattle.promise.specs.Settings.{Settings, settingsOf, with-ctrl1, withoutTx1m, with-pin, osm, bor as borBit}
 use Rattle.promise.proofs.Arrivals.{bus-due, own-due, bus-finds, own-finds, heard-kept, frame-kept}
-use Rattle.promise.proofs.Boxes.{rests-same, buffer-runs, halted-boxed, begun-boxed, sent-boxed}
+use Rattle.promise.proofs.Boxes.{rests-same, buffer-runs, halted-boxed, begun-boxed, transmitted-boxed}
 use Rattle.promise.proofs.Fits.{some-wait}
 use Rattle.promise.proofs.Kept.{Kept}
 use Rattle.promise.proofs.Own.{header-possible, header-of, eight-of}
@@ -61,14 +61,14 @@ module _ (d : Device) (r : Records) (h : Kept d r) where
 
   -- ---- transmissions
 
-  pub sent-kept : rests (r .outbox .running) ≡ false → Kept (sent d) (completedMet r)
-  unfolding sent raised cleared6 countedCompletion completed
-  sent-kept some = (
+  pub transmitted-kept : rests (r .outbox .running) ≡ false → Kept (transmitted d) (completedMet r)
+  unfolding transmitted raised cleared6 countedCompletion completed
+  transmitted-kept some = (
     ap withoutTx1m (h .0),
     h .1,
     (rw (h .2 .0, acts), h .2 .1, h .2 .2, ap (λ bits. bitOr bits txcplt) (h .2 .3)),
     h .3,
-    rw (← h .2 .1) (sent-boxed _ _ _ _ _ _ (h .4) (d .time) some),
+    rw (← h .2 .1) (transmitted-boxed _ _ _ _ _ _ (h .4) (d .time) some),
   )
 
   one-shot : (t : Bool) (s : Settings) (v : ℕ) → with-ctrl1 s (pick t v (s .ctrl1)) ≡ pick t (with-ctrl1 s v) s
@@ -122,7 +122,7 @@ module _ (d : Device) (r : Records) (h : Kept d r) where
     own-kept =
         let arrives = arriving r (ownHeader d) (ownData d) in
         subst (λ (f : Frame). Kept (echoed d own-told) (completedMet (heard r f (reasonOf own-told)))) own-same
-        (sent-kept (arrived d (ownHeader d) (ownData d) own-told) (heard r arrives (reasonOf own-told))
+        (transmitted-kept (arrived d (ownHeader d) (ownData d) own-told) (heard r arrives (reasonOf own-told))
         (heard-kept d r h (ownHeader d) (ownData d) own-possible own-told (own-finds d r h (ownHeader d) (ownData d) own-possible))
         some)
 
@@ -136,7 +136,7 @@ module _ (d : Device) (r : Records) (h : Kept d r) where
       subst (λ (n : ℕ). Kept (echoed d own-told) (completedMet (heard r (own r) n))) (ap (λ values. byte values 1) own-says) own-kept,
       own-says,
     )
-    by-mode false = (sent-kept d r h some, refl)
+    by-mode false = (transmitted-kept d r h some, refl)
 
   -- ---- each event
 

@@ -23,8 +23,8 @@ module _ (d : Device) (r : Records) where
     ),
     record {
       places = h .shaped .3;
-      queue = h .sent .0;
-      runs = h .sent .1;
+      queue = h .written .0;
+      runs = h .written .1;
       pages = h .shaped .4;
       entries = h .remembered .0;
       tag = h .remembered .1;
@@ -46,7 +46,7 @@ module _ (d : Device) (r : Records) where
     latest = (k .3 .0, k .3 .1);
     whole = k .3 .2 .whole;
     arrived = (k .3 .3, k .3 .2 .shown);
-    sent = (k .4 .queue, k .4 .runs);
+    written = (k .4 .queue, k .4 .runs);
     remembered = (k .4 .entries, k .4 .tag);
     sendable = (k .4 .flying, k .4 .sendable);
   }

@@ -12,7 +12,7 @@ use Rattle.chip.specs.State.{fresh, sleep, resetBit, wakeup}
 use Rattle.flags.specs.Flags.{raised}
 use Rattle.flags.specs.Reset.{reset as resetDevice}
 use Rattle.transmit.specs.Transmit.{stopped}
-use Rattle.modes.specs.Modes.{put-ctrl0, changed, writeCtrl0, canSleep, busQuiet, busActivity}
+use Rattle.modes.specs.Modes.{put-ctrl0, modeChanged as changedDevice, writeCtrl0, canSleep, busQuiet, busActivity}
 use Rattle.frame.specs.Length.{dataOf, dataBytes, dataLength}
 use Rattle.frame.specs.Received.{received}
 use Rattle.frame.specs.Tables.{idAsRead, idBits}
@@ -62,10 +62,10 @@ module _ (d : Device) (r : Records) (h : Kept d r) where
     -- by whether MODE names sleep, or the acting mode
     named-kept : (t u : Bool) → eqb (modeNamed v) sleep ≡ t → eqb (modeNamed v) (d .acting) ≡ u
         → Kept
-        (pick t (put-ctrl0 d v) (pick u (put-ctrl0 d v) (changed (stopped (put-ctrl0 d v)) (modeNamed v))))
+        (pick t (put-ctrl0 d v) (pick u (put-ctrl0 d v) (changedDevice (stopped (put-ctrl0 d v)) (modeNamed v))))
         (let s = modeWritten (r .settings) v in
         pick (eqb (s .acting) (r .settings .acting)) (with-settings r s) (with-outbox (modeChanged r s) (halted (r .outbox))))
-    unfolding changed stopped raised
+    unfolding changedDevice stopped raised
     named-kept true u sleeps same =
         rw (sleeps, eq-eqb (r .settings .acting) (r .settings .acting) refl)
         (ap (λ (s : Settings). with-mode s v (s .acting) (not (eqb (s .acting) sleep))) (h .0), h .1, h .2, h .3, h .4)
@@ -96,7 +96,7 @@ module _ (d : Device) (r : Records) (h : Kept d r) where
       (sym (and-assoc (eqb (modeNamed (d .regs .ctrl0)) sleep) _ _))
 
   pub quiet-kept : Kept (busQuiet d) (quietMet r)
-  unfolding busQuiet changed raised
+  unfolding busQuiet changedDevice raised
   quiet-kept =
       rw sleep-same
       (pick-both Kept (r .settings .waits && (eqb (length (r .outbox .queue)) 0 && rests (r .outbox .running))) _ _ _ _
@@ -107,7 +107,7 @@ module _ (d : Device) (r : Records) (h : Kept d r) where
   wake-same = ap (λ (s : Settings). eqb (s .acting) sleep && wakeupBit s) (h .0)
 
   pub activity-kept : Kept (busActivity d) (activityMet r)
-  unfolding busActivity changed raised
+  unfolding busActivity changedDevice raised
   activity-kept =
       rw wake-same
       (pick-both Kept (eqb (r .settings .acting) sleep && wakeupBit (r .settings)) _ _ _ _ (

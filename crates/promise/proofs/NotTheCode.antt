@@ -1,4 +1,5 @@
--- Another machine is not the code, so that the promise rules something out: one that says Queued of a tick. Assumes nothing.
+-- Another machine is not the code, so that the promise rules something out: one that says Queued of a tick. Assumes
+-- nothing.
 use mathlib.Core.Path.{_≡_, refl, sym, _∙_, ap}
 use mathlib.Core.Logic.{∥∥₁-elim}
 use Prim.Native.Nat.{ℕ}

@@ -20,11 +20,11 @@ use Rattle.frame.specs.Received.{received, headerIn, dataIn}
 use Rattle.frame.specs.Tables.{idBits, idAsRead}
 use Rattle.frame.proofs.Data.{data-bytes-le}
 use Rattle.frame.proofs.Parts.{code-fits}
-use Rattle.sent.specs.declared.ToSend.{ToSend}
-use Rattle.sent.specs.Sent.{standardHeader, extendedHeader, headerSent, rightLength, messageOf, stored}
-use Rattle.sent.proofs.StoredBack.{stored-header, stored-data}
+use Rattle.to_send.specs.declared.ToSend.{ToSend}
+use Rattle.to_send.specs.ToSend.{standardHeader, extendedHeader, headerToSend, rightLength, messageOf, stored}
+use Rattle.to_send.proofs.StoredBack.{stored-header, stored-data}
 use Rattle.promise.specs.Frames.{dataCount, dataByte}
-use Rattle.promise.specs.Own.{Own, noMessage, marksExtended, dataFrom, standardWritten, extendedWritten, headerWritten, messageFits, messageWritten, kept, Sendable}
+use Rattle.promise.specs.Own.{Own, noMessage, marksExtended, dataFrom, standardWritten, extendedWritten, headerWritten, messageFits, messageWritten, ownMessage, Sendable}
 use Rattle.promise.proofs.Queues.{data-length}
 use Rattle.promise.proofs.Shown.{count-same, arrives-same, data-at, identifier-laid}
 
@@ -40,16 +40,16 @@ by-kind : (t : Bool) (s : List ℕ)
 by-kind true s = rw (div-one (byte s 3))
 by-kind false s = refl
 
-header-reduced : (s : List ℕ) → headerWritten s ≡ reduced (headerSent s)
-unfolding headerSent
+header-reduced : (s : List ℕ) → headerWritten s ≡ reduced (headerToSend s)
+unfolding headerToSend
 header-reduced s = by-kind (marksExtended s) s
 
 below : (t : Bool) (n : ℕ) → n % pick t (2 ^ 29) (2 ^ 11) < pick t (2 ^ 29) (2 ^ 11)
 below true n = mod-lt n (lit< tt)
 below false n = mod-lt n (lit< tt)
 
-code-below : (s : List ℕ) → headerSent s .code ≤ 15
-unfolding headerSent
+code-below : (s : List ℕ) → headerToSend s .code ≤ 15
+unfolding headerToSend
 code-below s = pick-keeps (λ (h : Header). h .code ≤ 15) (marksExtended s) _ _ (omega arith) (omega arith)
 
 possible-reduced : (h : Header) → h .code ≤ 15 → possible (reduced h) ≡ true
@@ -103,9 +103,9 @@ module _ (m : Own) (sendable : Sendable m) where
       let long : 8 ≡ length (m .eight) = ap length (sendable .1) in
       data-listed (m .header) (m .eight) (omega (arith, data-bytes-le (m .header))) ∙ sendable .1
 
-  kept-stored : kept m .bytes ≡ stored (toSend m)
+  own-stored : ownMessage m .bytes ≡ stored (toSend m)
   unfolding stored received idAsRead
-  kept-stored =
+  own-stored =
       let small : m .header .code % 16 ≡ m .header .code = mod-eq-of-lt (omega (arith, code-fits (m .header) header-possible)) in
       rw (
         cut,
@@ -113,17 +113,17 @@ module _ (m : Own) (sendable : Sendable m) where
         ← identifier-laid (m .header) (flag (m .header .extended)) (flag (m .header .remote)) header-possible,
       )
 
-  pub header-of : headerIn (kept m .bytes) ≡ m .header
-  header-of = rw kept-stored (stored-header (toSend m) header-possible)
+  pub header-of : headerIn (ownMessage m .bytes) ≡ m .header
+  header-of = rw own-stored (stored-header (toSend m) header-possible)
 
-  pub eight-of : dataIn (kept m .bytes) ≡ m .eight
-  eight-of = rw kept-stored (stored-data (toSend m) ∙ cut)
+  pub eight-of : dataIn (ownMessage m .bytes) ≡ m .eight
+  eight-of = rw own-stored (stored-data (toSend m) ∙ cut)
 
-  pub kept-few : length (kept m .bytes) ≤ 16
+  pub own-few : length (ownMessage m .bytes) ≤ 16
   unfolding stored received idAsRead
-  kept-few =
+  own-few =
       let few = data-length (m .header) (m .eight) in
-      subst (λ (bytes : List ℕ). length bytes ≤ 16) (sym kept-stored) (omega arith)
+      subst (λ (bytes : List ℕ). length bytes ≤ 16) (sym own-stored) (omega arith)
 
 -- the device's header is kept like the cut one
 stored-reduced : (tag : ℕ) (h : Header) (bytes : List ℕ)
@@ -139,11 +139,11 @@ none-sendable = (refl, refl)
 module _ (s : List ℕ) where
   pub fits-same : rightLength s ≡ messageFits s
   unfolding rightLength
-  fits-same = rw (count-same (headerSent s), header-reduced s)
+  fits-same = rw (count-same (headerToSend s), header-reduced s)
 
   module _ (fits : rightLength s ≡ true) where
     abbrev h : Header
-    h = headerSent s
+    h = headerToSend s
 
     abbrev raw : List ℕ
     raw = drop (dataFrom s) s
@@ -166,7 +166,7 @@ module _ (s : List ℕ) where
           data-again g raw,
         )
 
-    pub stored-kept : stored (messageOf s .message) ≡ kept (messageWritten s) .bytes
+    pub stored-own : stored (messageOf s .message) ≡ ownMessage (messageWritten s) .bytes
     unfolding messageOf
-    stored-kept =
-        rw (fits, kept-stored (messageWritten s) written-sendable, eight-is, header-reduced s) (stored-reduced (byte s 1) h (dataOf h raw))
+    stored-own =
+        rw (fits, own-stored (messageWritten s) written-sendable, eight-is, header-reduced s) (stored-reduced (byte s 1) h (dataOf h raw))

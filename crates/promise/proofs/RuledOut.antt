@@ -19,11 +19,11 @@ use Rattle.promise.specs.Frames.{Frame, blank, message, identifierRead}
 use Rattle.promise.specs.Numbers.{Fits, Answered, First, Refused, Untouched, numberGiven}
 use Rattle.promise.specs.Outbox.{Running, none, first, alone}
 use Rattle.promise.specs.Due.{Due}
-use Rattle.promise.specs.Held.{Each, Runs, Settled, Counted, Timed, Seen, Raised, Pinned, Whole, AsArrived, Sent}
+use Rattle.promise.specs.Held.{Each, Runs, Settled, Counted, Timed, Seen, Raised, Pinned, Whole, AsArrived, AsWritten}
 use Rattle.promise.specs.After.{recorded, After, Answers, Same, Onward}
 use Rattle.promise.specs.Records.{Records}
-use Rattle.promise.specs.Own.{kept}
-use Rattle.promise.proofs.Cases.{Case, lost, undue, unsettled, miscounted, mistimed, unseen, unraised, unsent, unlike, misshown, unlikeItself}
+use Rattle.promise.specs.Own.{ownMessage}
+use Rattle.promise.proofs.Cases.{Case, lost, undue, unsettled, miscounted, mistimed, unseen, unraised, unwritten, unlike, misshown, unlikeItself}
 use Rattle.promise.proofs.Cases.{misjudged, misanswered, changing, astray, cases}
 use Rattle.promise.proofs.Queues.{Shown}
 use Rattle.promise.proofs.Sides.{alike, alike-self, allBytes, counts, settingBytes, levels, numbers, numbersDue, refusal, buffered, runningBytes, sides, differ}
@@ -37,7 +37,7 @@ Promise (miscounted w is) = After w Counted
 Promise (mistimed w is) = After w Timed
 Promise (unseen w is) = After w Seen
 Promise (unraised w is) = After w Raised
-Promise (unsent w is) = After w Sent
+Promise (unwritten w is) = After w AsWritten
 Promise (unlike w is) = Same w
 Promise (misshown look is) = After shipped (Pinned look)
 Promise (unlikeItself w is) = After w AsArrived
@@ -88,9 +88,9 @@ equal (miscounted w is) holds = ap counts (holds is)
 equal (mistimed w is) holds = ap (λ n. n ∷ []) (holds is)
 equal (unseen w is) holds = ap (λ n. n ∷ []) (holds is)
 equal (unraised w is) holds = ap (λ n. n ∷ []) (holds is)
-equal (unsent w is) holds =
+equal (unwritten w is) holds =
     rw (holds is .0)
-    (ap (λ l. allBytes (map kept (recorded w is .outbox .queue)) ++ l)
+    (ap (λ l. allBytes (map ownMessage (recorded w is .outbox .queue)) ++ l)
     (runs-bytes (run w fresh is .sending) (run w fresh is .buffer) (recorded w is .outbox .running) (holds is .1)))
 equal (unlike w is) holds = ap (λ (r : Records). length (r .ledger .accepted) ∷ []) (holds is)
 equal (misshown look is) holds = ap levels (holds is)

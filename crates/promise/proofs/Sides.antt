@@ -19,7 +19,7 @@ use Rattle.frame.specs.Tables
 use Rattle.filter.specs.Lowest
 use Rattle.filter.specs.Match
 use Rattle.levels.specs.Levels
-use Rattle.sent.specs.Sent
+use Rattle.to_send.specs.ToSend
 use Rattle.chip.specs.State.{fresh}
 use Rattle.chip.specs.Proper
 use Rattle.chip.specs.State
@@ -48,7 +48,7 @@ use Rattle.promise.specs.Frames.{blank, message, identifierRead}
 use Rattle.promise.specs.Numbers
 use Rattle.promise.specs.Numbers.{situation, numberDue, refuses, numberGiven}
 use Rattle.promise.specs.Outbox.{Running, none, first, alone}
-use Rattle.promise.specs.Own.{kept}
+use Rattle.promise.specs.Own.{ownMessage}
 use Rattle.promise.specs.Due.{situationOf, filled}
 use Rattle.promise.specs.After.{recorded}
 use Rattle.promise.specs.Noted
@@ -59,7 +59,7 @@ use Rattle.promise.specs.Registers
 use Rattle.promise.specs.Registers.{shown, pinsShown}
 use Rattle.promise.specs.Settings
 use Rattle.promise.specs.Settings.{Settings, settingsOf}
-use Rattle.promise.proofs.Cases.{Case, lost, undue, unsettled, miscounted, mistimed, unseen, unraised, unsent, unlike, misshown, unlikeItself}
+use Rattle.promise.proofs.Cases.{Case, lost, undue, unsettled, miscounted, mistimed, unseen, unraised, unwritten, unlike, misshown, unlikeItself}
 use Rattle.promise.proofs.Cases.{misjudged, misanswered, changing, astray, cases}
 
 -- ---- lists of numbers that differ
@@ -124,8 +124,8 @@ buffered buffer (alone m) = buffer .bytes
 
 abbrev pub runningBytes : Running → List ℕ
 runningBytes none = []
-runningBytes (first m) = kept m .bytes
-runningBytes (alone m) = kept m .bytes
+runningBytes (first m) = ownMessage m .bytes
+runningBytes (alone m) = ownMessage m .bytes
 
 -- what the device comes to, and what its promise says
 abbrev pub sides : Case → List ℕ × List ℕ
@@ -139,9 +139,9 @@ sides (miscounted w is) = (counts (run w fresh is .counters), counts (recorded w
 sides (mistimed w is) = (run w fresh is .time ∷ [], recorded w is .ticks % 65536 ∷ [])
 sides (unseen w is) = (run w fresh is .regs .errs ∷ [], together (recorded w is .kinds) ∷ [])
 sides (unraised w is) = (run w fresh is .regs .intf ∷ [], together (recorded w is .flags) ∷ [])
-sides (unsent w is) = (
+sides (unwritten w is) = (
   allBytes (waiting (run w fresh is .tx)) ++ buffered (run w fresh is .buffer) (recorded w is .outbox .running),
-  allBytes (map kept (recorded w is .outbox .queue)) ++ runningBytes (recorded w is .outbox .running),
+  allBytes (map ownMessage (recorded w is .outbox .queue)) ++ runningBytes (recorded w is .outbox .running),
 )
 sides (unlike w is) = (
   length (recordsBy byTheAnswers (conversation w fresh is) .ledger .accepted) ∷ [],
@@ -161,10 +161,10 @@ pub differ : map (λ c. alike (sides c .0) (sides c .1)) cases ≡ replicate (le
 unfolding Transfer.transfer Transfer.replyAfter Refused.lengthFits Refused.setsUp Refused.outsideSetUp Refused.findsFull Refused.readsMessage
     Refused.findsNone Refused.refusal Refused.rowJudged Refused.verdict Proper.registersInRange Proper.sendingInRange Proper.actingInRange
     Proper.proper State.modeOf State.fresh State.enabled State.bank Queue.empty Queue.put Queue.take Queue.next Queue.inRange Table.rows
-    Sent.headerSent Sent.rightLength Sent.messageOf Sent.stored Done.pattern Done.registersAfter Done.registerChanged Done.messageTaken
+    ToSend.headerToSend ToSend.rightLength ToSend.messageOf ToSend.stored Done.pattern Done.registersAfter Done.registerChanged Done.messageTaken
     Done.entryTaken Done.receiveCleared Done.timeReset Done.messageWritten Done.filterWritten Done.maskWritten Done.recWritten Done.tecWritten
-    Done.does Modes.changed Modes.writeCtrl0 Modes.canSleep Modes.busQuiet Modes.busActivity Flags.raised Flags.busError Reset.reset Receive.hit
-    Receive.room Receive.passed Receive.answered Receive.filtersAndRoom Receive.isQueued Receive.queuedFlag Receive.filterFlag Receive.queueAfter
+    Done.does Modes.modeChanged Modes.writeCtrl0 Modes.canSleep Modes.busQuiet Modes.busActivity Flags.raised Flags.busError Reset.reset Receive.hit
+    Receive.queuedUnlessFull Receive.passed Receive.byHit Receive.filtersAndRoom Receive.isQueued Receive.queuedFlag Receive.filterFlag Receive.queueAfter
     Receive.arrived Lowest.lowest Lowest.filhit Match.matches Length.dataLength Length.dataBytes Length.possible Length.dataFits Length.dataOf
     Ranges.inRange Filters.filhitOf Received.received Received.headerIn Tables.idBits Tables.idToSend Tables.idAsRead Tables.compared Judged.quietMode Judged.noErrors Judged.runs
     Judged.impossibleFrame Judged.impossible Judged.takesNoFrames Judged.unacknowledged Judged.reason Judged.echo Judged.said Changed.errBit
@@ -173,7 +173,7 @@ unfolding Transfer.transfer Transfer.replyAfter Refused.lengthFits Refused.setsU
     Event.numberOf Event.reasonOf Event.valuesOf Event.answer Event.event Rules.receiveError Rules.dominantBit Rules.goodFrame Rules.transmitError
     Rules.completed Rules.elevenRecessive Rules.testRec Rules.testTec Transmit.sends Transmit.canBegin Transmit.withoutTx1m Transmit.ctrl1Begun
     Transmit.begun Transmit.stopped Transmit.aborted Transmit.leftAlone Transmit.cleared Transmit.stamped Transmit.fifoAfter
-    Transmit.countedCompletion Transmit.sent Shown.cut Shown.register Shown.shows
+    Transmit.countedCompletion Transmit.transmitted Shown.cut Shown.register Shown.shows
     Drawn.int Drawn.stat Drawn.gp Drawn.statf Levels.errw Levels.errp Levels.rxerrp Levels.txerrp Levels.groupsShown Levels.tecShown Pins.pins
     Commands.isCommand Commands.lengthsOf Commands.setsUp Commands.rightLength Numbers.findsNone Numbers.cannotBe Numbers.numberDue
     Noted.happened Noted.commanded Registers.intf Registers.err Registers.statf Registers.messtat Registers.shown Settings.modeNamed

@@ -21,8 +21,8 @@ module _ (step : Machine) where
   abbrev pub After : (Device → Records → Type 0) → Type 0
   After P = (is : List Input) → P (reached is) (recorded is)
 
-  -- Whatever comes next gets the answer that it is due. A sequence's beginning is a sequence too, so after every sequence this
-  -- speaks of every input.
+  -- Whatever comes next gets the answer that it is due. A sequence's beginning is a sequence too, so after every
+  -- sequence this speaks of every input.
   abbrev pub Answers : Device → Records → Type 0
   Answers d r = (i : Input) → Due r i (step d i .given)
 
@@ -30,8 +30,9 @@ module _ (step : Machine) where
   abbrev pub Same : Type 0
   Same = (is : List Input) → recordsBy byTheAnswers (conversation step fresh is) ≡ recorded is
 
-  -- In any device that holds what some records have, the pins show them, an input gets the answer that it is due, and the
-  -- device after it holds what they then have.
+  -- In any device that holds what some records have, the pins show them, an input gets the answer that it is due, and
+  -- the device after it holds what they then have.
   abbrev pub Onward : (Device → Pins) → Type 0
   Onward look = (d : Device) (r : Records) → Holds d r
-      → Pinned look d r × Answers d r × ((i : Input) → Holds (step d i .device) (noted byTheRules r i (step d i .given)))
+      → Pinned look d r × Answers d r
+      × ((i : Input) → Holds (step d i .device) (noted byTheRules r i (step d i .given)))

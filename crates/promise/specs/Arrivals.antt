@@ -1,20 +1,21 @@
 -- A frame that arrives, from the bus or in loopback of our own, and what it has to be told (01, Numbers given back, and
 -- Modes and filters).
-use mathlib.Core.List.{List, [], _∷_}
+use mathlib.Core.Bool.{Bool, not, _&&_, _||_}
+use mathlib.Core.List.{List, [], _∷_, _++_}
 use Prim.Native.Nat.{ℕ, _%_}
-use lib.Dec.{eqb}
+use lib.Dec.{eqb, leb}
 use Rattle.base.specs.Pick.{pick}
 use Rattle.frame.specs.declared.Header.{Header}
 use Rattle.events.specs.declared.Event.{Event}
-use Rattle.events.specs.declared.Event.the-variants.{GoodFrame, ReceiveError, DominantBit, TransmitError, Begun, Completed}
-use Rattle.events.specs.declared.Event.the-variants.{ArbitrationLost, ElevenRecessive, BusQuiet, BusActivity, Ticks, TxenPin, MrPin}
-use Rattle.events.specs.declared.Event.the-variants.{Unknown}
+use Rattle.events.specs.declared.Event.the-variants.{GoodFrame, ReceiveError, DominantBit, TransmitError, Begun}
+use Rattle.events.specs.declared.Event.the-variants.{Completed, ArbitrationLost, ElevenRecessive, BusQuiet, BusActivity}
+use Rattle.events.specs.declared.Event.the-variants.{Ticks, TxenPin, MrPin, Unknown}
 use Rattle.promise.specs.Filters.{compared, filhitOf}
 use Rattle.promise.specs.Frames.{Frame}
-use Rattle.promise.specs.Ledger.{Reason, firstTrue, fromTheBus, reasons}
+use Rattle.promise.specs.Ledger.{Ledger, left}
 use Rattle.promise.specs.Outbox.{inFlight}
 use Rattle.promise.specs.Records.{Records}
-use Rattle.promise.specs.Settings.{loopback, Settings, filton}
+use Rattle.promise.specs.Settings.{loopback, monitor, sleep, initialization, Settings, filton}
 
 -- "from 65535 to 0"
 abbrev pub time : Records → ℕ
@@ -25,11 +26,42 @@ abbrev pub filhitNow : Settings → Header → List ℕ → ℕ
 filhitNow s h payload = pick (filton s) (filhitOf (s .filters) (s .masks) (compared h payload)) 0
 
 abbrev pub arriving : Records → Header → List ℕ → Frame
-arriving r h payload = record { header = h; payload = payload; time = time r; filhit = filhitNow (r .settings) h payload }
+arriving r h payload = record {
+  header = h;
+  payload = payload;
+  time = time r;
+  filhit = filhitNow (r .settings) h payload;
+}
 
 -- the own message that runs, as a frame
 abbrev pub own : Records → Frame
 own r = let m = inFlight (r .outbox .running) in arriving r (m .header) (m .eight)
+
+-- ---- the first reason that holds
+
+-- a question of 01, and the number of the reason if it holds
+abbrev pub Reason : Type 0
+Reason = Bool × ℕ
+
+-- 0 is Queued
+abbrev pub firstTrue : List Reason → ℕ
+firstTrue [] = 0
+firstTrue (r ∷ rs) = pick (r .0) (r .1) (firstTrue rs)
+
+-- "A1 the mode doesn't take bus frames (initialization, sleep, loopback); A2 bus off; A3 monitor mode, and no other
+-- node acknowledged it"
+abbrev pub fromTheBus : ℕ → Bool → Bool → List Reason
+fromTheBus acting busoff acknowledged =
+    ((eqb acting initialization || eqb acting sleep) || eqb acting loopback, 1) ∷
+    (busoff, 2) ∷
+    (eqb acting monitor && not acknowledged, 3) ∷
+    []
+
+-- "A4 filtering is on and no filter matches; A5 eight messages wait": room is counted here
+abbrev pub reasons : Bool → Ledger → Frame → List Reason → List Reason
+reasons filton l f earlier = earlier ++ (filton && eqb (f .filhit) 0, 4) ∷ (leb 8 (left l), 5) ∷ []
+
+-- ---- what an event brings, and what it is told
 
 pub data Brings : Type 0 where
   -- a frame, and the reasons that are asked before the filters

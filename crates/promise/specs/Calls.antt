@@ -1,8 +1,8 @@
--- The machine that the promises are kept by is the code: the contracts of the calls, as the toolchain makes them of the source,
--- ask nothing of a caller and equate each outcome with its step (crate `one`).
--- Of a call, `ended` is its signature and `spec` its contract, in any model M of memory. An outcome x is the result, `x .0`,
--- and what lent memory then holds, a place for each parameter: of `host::transfer` the third, `x .1 .1 .1 .0`, is the reply
--- buffer. What lent memory held at the call is `now`.
+-- The machine that the promises are kept by is the code: the contracts of the calls, as the toolchain makes them of
+-- the source, ask nothing of a caller and equate each outcome with its step (crate `one`). Of a call, `ended` is its
+-- signature and `spec` its contract, in any model M of memory. An outcome x is the result, `x .0`, and what lent
+-- memory then holds, a place for each parameter: of `host::transfer` the third, `x .1 .1 .1 .0`, is the reply buffer.
+-- What lent memory held at the call is `now`.
 use denote.Ref.{now}
 use Rattle.chip.specs.declared.Device.{Device}
 use Rattle.bus.specs.declared.types.Pins.{Pins}
@@ -38,11 +38,15 @@ module _ (M : Type 1) (step : Machine) where
 module _ (M : Type 1) where
   -- `bus::pins(d)`
   abbrev pub Looks : (Device → Pins) → Type 2
-  Looks look = Equates M bus.pins.ended bus.pins.spec (λ a. Pins) (λ a x. x .0) (at bus.pins.ended Pins (λ lifetimes d. look d))
+  Looks look =
+      Equates M bus.pins.ended bus.pins.spec (λ a. Pins) (λ a x. x .0) (at bus.pins.ended Pins (λ lifetimes d. look d))
 
   -- `chip::fresh()`
   abbrev pub Begins : Device → Type 2
-  Begins first = Equates M chip.fresh.ended chip.fresh.spec (λ a. Device) (λ a x. x .0) (at chip.fresh.ended Device (λ lifetimes. first))
+  Begins first =
+      Equates M chip.fresh.ended chip.fresh.spec (λ a. Device) (λ a x. x .0)
+      (at chip.fresh.ended Device (λ lifetimes. first))
 
 abbrev pub IsTheCode : Machine → (Device → Pins) → Device → Type 2
-IsTheCode step look first = (M : Type 1) → Transfers M step × Events M step × Asked M step × Looks M look × Begins M first
+IsTheCode step look first =
+    (M : Type 1) → Transfers M step × Events M step × Asked M step × Looks M look × Begins M first

@@ -83,8 +83,8 @@ lengths =
     sameFor filterWrites (followed 6 6) ++
     sameFor maskWrites (followed 6 6) ++
     -- "0x42 gives 15 bytes, 0x44 13, 0x46 16, 0x48 14, 0x4A 11, 0x4C 9, 0xEE 3, 0xFA 2"
-    (0x42, byItself 15) ∷ (0x44, byItself 13) ∷ (0x46, byItself 16) ∷ (0x48, byItself 14) ∷ (0x4A, byItself 11) ∷ (0x4C, byItself 9) ∷
-    (0xEE, byItself 3) ∷ (0xFA, byItself 2) ∷
+    (0x42, byItself 15) ∷ (0x44, byItself 13) ∷ (0x46, byItself 16) ∷ (0x48, byItself 14) ∷ (0x4A, byItself 11) ∷
+    (0x4C, byItself 9) ∷ (0xEE, byItself 3) ∷ (0xFA, byItself 2) ∷
     -- "filter and mask reads give 6, other register reads 1"
     sameFor filterReads (byItself 6) ++
     sameFor maskReads (byItself 6) ++

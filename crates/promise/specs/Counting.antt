@@ -1,5 +1,5 @@
--- REC, TEC, bus off and its groups: how each rule moves them (01, Bus events). Said here anew, so that a promise by these
--- rules pins those that the device counts by.
+-- REC, TEC, bus off and its groups: how each rule moves them (01, Bus events). Said here anew, so that a promise by
+-- these rules pins those that the device counts by.
 use mathlib.Core.Bool.{Bool, true, false, _&&_}
 use Prim.Native.Nat.{ℕ, _+_, _-_, min}
 use lib.Dec.{eqb, ltb}
@@ -43,7 +43,9 @@ tecMoved c after = pick (c .busoff) c after
 abbrev pub tecUp : Counters → Counters
 tecUp c =
     tecMoved c
-    (pick (ltb 255 (c .tec + 8)) (record { rec = c .rec; tec = 255; busoff = true; groups = 0 }) (tec-to c (c .tec + 8)))
+    (pick (ltb 255 (c .tec + 8))
+    (record { rec = c .rec; tec = 255; busoff = true; groups = 0 })
+    (tec-to c (c .tec + 8)))
 
 -- "Completed: TEC - 1, not below 0."
 abbrev pub tecDown : Counters → Counters

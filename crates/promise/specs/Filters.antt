@@ -1,5 +1,5 @@
--- The filters: what they are held against, when one matches, and what FILHIT then is (01, Modes and filters; 000, Tables
--- 4a and 4b).
+-- The filters: what they are held against, when one matches, and what FILHIT then is (01, Modes and filters; 000,
+-- Tables 4a and 4b).
 use mathlib.Core.Bool.{Bool, true, _&&_, _||_}
 use mathlib.Core.List.{List, [], _∷_, _++_, map}
 use Prim.Native.Nat.{ℕ, zero, suc, _+_}
@@ -25,14 +25,16 @@ eightBits = 7 ∷ 6 ∷ 5 ∷ 4 ∷ 3 ∷ 2 ∷ 1 ∷ 0 ∷ []
 
 abbrev pub counted : List (ℕ × List ℕ)
 counted =
-    (1, eightBits) ∷ (2, eightBits) ∷ (3, eightBits) ∷ (4, 7 ∷ 6 ∷ 5 ∷ 4 ∷ 3 ∷ 2 ∷ 1 ∷ []) ∷ (5, eightBits) ∷ (6, eightBits) ∷ []
+    (1, eightBits) ∷ (2, eightBits) ∷ (3, eightBits) ∷ (4, 7 ∷ 6 ∷ 5 ∷ 4 ∷ 3 ∷ 2 ∷ 1 ∷ []) ∷
+    (5, eightBits) ∷ (6, eightBits) ∷ []
 
 -- "A filter matches when all counted bits agree": where the mask has a 1, frame and filter are alike
 abbrev pub bitAgrees : ℕ → ℕ → ℕ → ℕ → Bool
 bitAgrees frame filter mask i = eqb (bit i mask) 0 || eqb (bit i frame) (bit i filter)
 
 abbrev pub matches : List ℕ → List ℕ → List ℕ → Bool
-matches frame filter mask = all (λ c. all (bitAgrees (byte frame (c .0)) (byte filter (c .0)) (byte mask (c .0))) (c .1)) counted
+matches frame filter mask =
+    all (λ c. all (bitAgrees (byte frame (c .0)) (byte filter (c .0)) (byte mask (c .0))) (c .1)) counted
 
 -- of n filters from number k on: "the lowest match, 1000 for filter 0 to 1111 for filter 7, else 0000"
 abbrev pub lowestFrom : ℕ → ℕ → List (List ℕ) → List (List ℕ) → List ℕ → ℕ

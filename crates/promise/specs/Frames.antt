@@ -32,8 +32,8 @@ message f = record { bytes = received (f .header) (f .payload) (f .time) (f .fil
 abbrev pub dataCount : Header → ℕ
 dataCount h = pick (h .remote) 0 (min (h .code) 8)
 
--- 8 is given for "an identifier of 2^11 (standard) or 2^29 (extended) or more, a length code above 15, data bytes not as
--- many as the length code says (none for a remote frame)"
+-- 8 is given for "an identifier of 2^11 (standard) or 2^29 (extended) or more, a length code above 15, data bytes not
+-- as many as the length code says (none for a remote frame)"
 abbrev pub canArrive : Header → ℕ → Bool
 canArrive h count =
     ltb (h .id) (pick (h .extended) (2 ^ 29) (2 ^ 11)) && (leb (h .code) 15 && eqb count (dataCount h))
@@ -55,8 +55,9 @@ identifierIn h bit4 bit0 =
 abbrev pub identifierRead : Header → List ℕ
 identifierRead h = identifierIn h (flag (h .extended)) (flag (h .remote))
 
--- The fields of a frame in sixteen bytes: "byte 1 as printed there", extended in bit 7 and FILHIT2..0 in bits 2 to 0; "2 and
--- 3 the time tag; 4 to 7 the identifier; 8 the length code; 9 to 16 the data", as they were given, and zeros behind them.
+-- The fields of a frame in sixteen bytes: "byte 1 as printed there", extended in bit 7 and FILHIT2..0 in bits 2 to 0;
+-- "2 and 3 the time tag; 4 to 7 the identifier; 8 the length code; 9 to 16 the data", as they were given, and zeros
+-- behind them.
 pub record Shows (f : Frame) (m : List ℕ) : Type 0 where
   pub kind : byte m 1 ≡ flag (f .header .extended) * 128 + f .filhit % 8
   pub time : map (byte m) (2 ∷ 3 ∷ []) ≡ f .time / 256 ∷ f .time % 256 ∷ []

@@ -14,7 +14,7 @@ use Rattle.bus.specs.declared.types.Pins.{Pins}
 use Rattle.promise.specs.Flags.{together}
 use Rattle.promise.specs.Frames.{message, Shows}
 use Rattle.promise.specs.Outbox.{Running, none, first, alone, inFlight}
-use Rattle.promise.specs.Own.{kept, Sendable}
+use Rattle.promise.specs.Own.{ownMessage, Sendable}
 use Rattle.promise.specs.Ranges.{inRange}
 use Rattle.promise.specs.Records.{Records}
 use Rattle.promise.specs.Registers.{pinsShown}
@@ -54,19 +54,21 @@ Pinned look d r = look d ≡ pinsShown r
 abbrev pub Whole : Device → Records → Type 0
 Whole d r = map message (r .ledger .taken) ++ waiting (d .rx) ≡ map message (r .ledger .accepted)
 
--- Each is kept with its fields as they arrived, and so is the latest, accepted or not. It is said of the messages that the
--- promise above finds in the device.
+-- Each is kept with its fields as they arrived, and so is the latest, accepted or not. It is said of the messages
+-- that the promise above finds in the device.
 abbrev pub AsArrived : Device → Records → Type 0
 AsArrived d r = Each (λ f. Shows f (message f .bytes)) (r .latest ∷ r .ledger .accepted)
 
 -- the message that runs: whether one does and where it stands, and the transmit buffer, which holds it
 abbrev pub Runs : ℕ → Message → Running → Type 0
 Runs sending buffer none = sending ≡ idle
-Runs sending buffer (first m) = (sending ≡ firstInFifo) × (buffer ≡ kept m)
-Runs sending buffer (alone m) = (sending ≡ State.alone) × (buffer ≡ kept m)
+Runs sending buffer (first m) = (sending ≡ firstInFifo) × (buffer ≡ ownMessage m)
+Runs sending buffer (alone m) = (sending ≡ State.alone) × (buffer ≡ ownMessage m)
 
-abbrev pub Sent : Device → Records → Type 0
-Sent d r = (waiting (d .tx) ≡ map kept (r .outbox .queue)) × Runs (d .sending) (d .buffer) (r .outbox .running)
+abbrev pub AsWritten : Device → Records → Type 0
+AsWritten d r =
+    (waiting (d .tx) ≡ map ownMessage (r .outbox .queue))
+    × Runs (d .sending) (d .buffer) (r .outbox .running)
 
 -- ---- the whole of it
 
@@ -81,8 +83,8 @@ entryOf m = take 3 (m .bytes)
 abbrev pub Remembered : Device → Records → Type 0
 Remembered d r = (map entryOf (waiting (d .history)) ≡ r .outbox .history) × (d .regs .mtag ≡ r .outbox .mtag)
 
--- What the code's arrays see to: "eight filters and eight masks of six bytes each", eight places in a queue, an entry's three
--- bytes among its sixteen. Here a message may be shorter, since a payload may be.
+-- What the code's arrays see to: "eight filters and eight masks of six bytes each", eight places in a queue, an
+-- entry's three bytes among its sixteen. Here a message may be shorter, since a payload may be.
 abbrev pub Banked : List Pattern → Type 0
 Banked ps = (length ps ≡ 8) × Each (λ (p : Pattern). length (p .bytes) ≡ 6) ps
 
@@ -91,7 +93,8 @@ Entry m = (3 ≤ length (m .bytes)) × (length (m .bytes) ≤ 16)
 
 abbrev pub Shaped : Device → Type 0
 Shaped d =
-    Banked (d .filters) × Banked (d .masks) × (length (d .rx .items) ≡ 8) × (length (d .tx .items) ≡ 8) × (length (d .history .items) ≡ 8)
+    Banked (d .filters) × Banked (d .masks)
+    × (length (d .rx .items) ≡ 8) × (length (d .tx .items) ≡ 8) × (length (d .history .items) ≡ 8)
     × Each Entry (waiting (d .history))
 
 pub record Holds (d : Device) (r : Records) : Type 0 where
@@ -105,7 +108,7 @@ pub record Holds (d : Device) (r : Records) : Type 0 where
   pub latest : Latest d r
   pub whole : Whole d r
   pub arrived : AsArrived d r
-  pub sent : Sent d r
+  pub written : AsWritten d r
   pub remembered : Remembered d r
   -- what waits to be sent, and what runs, can have come by 0x12
   pub sendable : Each Sendable (inFlight (r .outbox .running) ∷ r .outbox .queue)

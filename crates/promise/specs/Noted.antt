@@ -9,27 +9,28 @@ use Rattle.base.specs.Pick.{pick, among}
 use Rattle.counters.specs.declared.Counters.{Counters}
 use Rattle.events.specs.declared.ErrorKind.{ErrorKind}
 use Rattle.events.specs.declared.Event.{Event}
-use Rattle.events.specs.declared.Event.the-variants.{GoodFrame, ReceiveError, DominantBit, TransmitError, Begun, Completed}
-use Rattle.events.specs.declared.Event.the-variants.{ArbitrationLost, ElevenRecessive, BusQuiet, BusActivity, Ticks, TxenPin, MrPin}
-use Rattle.events.specs.declared.Event.the-variants.{Unknown}
+use Rattle.events.specs.declared.Event.the-variants.{GoodFrame, ReceiveError, DominantBit, TransmitError, Begun}
+use Rattle.events.specs.declared.Event.the-variants.{Completed, ArbitrationLost, ElevenRecessive, BusQuiet, BusActivity}
+use Rattle.events.specs.declared.Event.the-variants.{Ticks, TxenPin, MrPin, Unknown}
 use Rattle.promise.specs.Arrivals.{time, arriving, own, valuesDue}
 use Rattle.promise.specs.Sequence.{Input, spi, wire, Given, Exchange, values, done}
 use Rattle.promise.specs.Commands.{messageReads, sameFor}
 use Rattle.promise.specs.Frames.{Frame, blank}
-use Rattle.promise.specs.Records.{Records, start, with-settings, with-counters, with-ticks, with-kinds, with-flags, with-ledger, with-latest}
-use Rattle.promise.specs.Records.{with-outbox}
-use Rattle.promise.specs.Settings.{loopback, sleep, Settings, resetTo, modeWritten, asleep, awake, disabled, withoutTx1m, with-pin}
-use Rattle.promise.specs.Settings.{settingWrites, asksReset, wakeup, bor, osm}
-use Rattle.promise.specs.Counting.{recUp, frameHeard, tecUp, tecDown, unlessMonitor, groupMet, recWritten, tecWritten}
+use Rattle.promise.specs.Records.{Records, start, with-settings, with-counters, with-ticks, with-kinds}
+use Rattle.promise.specs.Records.{with-flags, with-ledger, with-latest, with-outbox}
+use Rattle.promise.specs.Settings.{loopback, sleep, Settings, resetTo, modeWritten, asleep, awake, disabled}
+use Rattle.promise.specs.Settings.{withoutTx1m, with-pin, settingWrites, asksReset, wakeup, bor, osm}
+use Rattle.promise.specs.Counting.{recUp, frameHeard, tecUp, tecDown, unlessMonitor, groupMet, recWritten}
+use Rattle.promise.specs.Counting.{tecWritten}
 use Rattle.promise.specs.Flags.{rxtmp, rxfifo, txcplt, buserr, mchg, wakeupFlag, f1mess, f0mess, kindBit, raise}
 use Rattle.promise.specs.Ledger.{cleared, accepts, takes}
 use Rattle.promise.specs.Own.{messageWritten}
-use Rattle.promise.specs.Outbox.{emptied, queued, begun, halted, clearedOut, sent, entryTaken, rests}
+use Rattle.promise.specs.Outbox.{emptied, queued, begun, halted, clearedOut, transmitted, entryTaken, rests}
 
 -- ---- modes and resets
 
--- "0x5A, 0x56, the MR pin and any register bit that 000 makes a master reset clear the receive FIFO." "ERR keeps its bits
--- over a reset; so do REC, TEC and bus off". It raises no flag.
+-- "0x5A, 0x56, the MR pin and any register bit that 000 makes a master reset clear the receive FIFO." "ERR keeps its
+-- bits over a reset; so do REC, TEC and bus off". It raises no flag.
 abbrev pub reset : Records → ℕ → Records
 reset r ctrl0 = record {
   settings = resetTo (r .settings) ctrl0;
@@ -46,7 +47,8 @@ reset r ctrl0 = record {
 abbrev pub modeChanged : Records → Settings → Records
 modeChanged r s = with-flags (with-settings r s) (mchg ∷ r .flags)
 
--- a write of CTRL0; RESET stays readable. Another mode "ends a running transmission as an abort does, TXEN and TX1M kept".
+-- a write of CTRL0; RESET stays readable. Another mode "ends a running transmission as an abort does, TXEN and TX1M
+-- kept".
 abbrev pub ctrl0Written : Records → ℕ → Records
 ctrl0Written r value =
     let s = modeWritten (r .settings) value in
@@ -74,8 +76,8 @@ activityMet r =
 abbrev pub reaches : ℕ → Bool
 reaches told = among told ((1, false) ∷ (2, false) ∷ (3, false) ∷ []) true
 
--- A frame that reaches the filters, by what it is told. RXTMP rises, RXFIFO if it is queued, F0MESS or F1MESS if filter 0
--- or 1 is the lowest match.
+-- A frame that reaches the filters, by what it is told. RXTMP rises, RXFIFO if it is queued, F0MESS or F1MESS if
+-- filter 0 or 1 is the lowest match.
 abbrev pub heard : Records → Frame → ℕ → Records
 heard r f told =
     with-flags
@@ -100,7 +102,9 @@ moved r after = unlessMonitor (r .settings .acting) (r .counters) after
 
 abbrev pub begunMet : Records → Records
 begunMet r =
-    with-outbox (with-settings r (pick (osm (r .settings)) (withoutTx1m (r .settings)) (r .settings))) (begun (r .outbox))
+    with-outbox
+    (with-settings r (pick (osm (r .settings)) (withoutTx1m (r .settings)) (r .settings)))
+    (begun (r .outbox))
 
 abbrev pub completedMet : Records → Records
 completedMet r =
@@ -110,7 +114,7 @@ completedMet r =
     (with-settings r (withoutTx1m (r .settings)))
     (moved r (tecDown (r .counters))))
     (txcplt ∷ r .flags))
-    (sent (r .outbox) (time r))
+    (transmitted (r .outbox) (time r))
 
 -- ---- what is written down of an event that was done, by what its frame is told
 

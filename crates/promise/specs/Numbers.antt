@@ -11,9 +11,9 @@ use Rattle.base.specs.Pick.{pick, among}
 use Rattle.chip.specs.declared.Device.{Device}
 use Rattle.chip.specs.State.{fresh, idle}
 use Rattle.events.specs.declared.Event.{Event}
-use Rattle.events.specs.declared.Event.the-variants.{GoodFrame, ReceiveError, DominantBit, TransmitError, Begun, Completed}
-use Rattle.events.specs.declared.Event.the-variants.{ArbitrationLost, ElevenRecessive, BusQuiet, BusActivity, Ticks, TxenPin, MrPin}
-use Rattle.events.specs.declared.Event.the-variants.{Unknown}
+use Rattle.events.specs.declared.Event.the-variants.{GoodFrame, ReceiveError, DominantBit, TransmitError, Begun}
+use Rattle.events.specs.declared.Event.the-variants.{Completed, ArbitrationLost, ElevenRecessive, BusQuiet, BusActivity}
+use Rattle.events.specs.declared.Event.the-variants.{Ticks, TxenPin, MrPin, Unknown}
 use Rattle.bus.specs.Event.{numberOf}
 use Rattle.judged.specs.declared.Answer.{Answer}
 use Rattle.judged.specs.declared.Answer.the-variants.{Refused as RefusedEvent, Done, Arrived}
@@ -59,9 +59,11 @@ noErrors s = (eqb (s .acting) initialization || eqb (s .acting) sleep) || s .bus
 -- "a begin while one runs, with nothing to send or no enable or in a mode that can't send or in bus off"
 abbrev pub canBegin : Situation → Bool
 canBegin s =
-    not (s .runs) && (not (eqb (s .toSend) 0) && (s .enabled && ((eqb (s .acting) normal || eqb (s .acting) loopback) && not (s .busoff))))
+    not (s .runs) && (not (eqb (s .toSend) 0) && (s .enabled &&
+    ((eqb (s .acting) normal || eqb (s .acting) loopback) && not (s .busoff))))
 
--- "an unknown kind", fields of a frame that can't be, "a completion, transmit error or lost arbitration with nothing begun"
+-- "an unknown kind", fields of a frame that can't be, "a completion, transmit error or lost arbitration with nothing
+-- begun"
 unfoldable pub cannotBe : Situation → Event → Bool
 cannotBe s (GoodFrame h acknowledged count) = not (canArrive h count)
 cannotBe s (ReceiveError kind) = noErrors s
@@ -146,7 +148,8 @@ module _ (step : Machine) where
   -- Each number but 0 is given exactly when its row says so and no lower one does.
   abbrev pub Exactly : Type 0
   Exactly = (d : Device) (i : Input) (n : ℕ) → 0 < n → n ≤ 8
-      → (numberGiven d i ≡ n) ↔ ((row (situation d) i n ≡ true) × ((m : ℕ) → 0 < m → m < n → row (situation d) i m ≡ false))
+      → (numberGiven d i ≡ n)
+      ↔ ((row (situation d) i n ≡ true) × ((m : ℕ) → 0 < m → m < n → row (situation d) i m ≡ false))
 
   -- "A refusal leaves device and reply buffer unchanged."
   abbrev pub Refused : Type 0

@@ -1,4 +1,5 @@
--- The outbox: the messages that 0x12 brought and that are not sent, the one that runs, and the history (01, Bus events).
+-- The outbox: the messages that 0x12 brought and that are not sent, the one that runs, and the history (01, Bus
+-- events).
 use mathlib.Core.Bool.{Bool, true, false}
 use mathlib.Core.List.{List, [], _∷_, _++_}
 use Prim.Native.Nat.{ℕ, _/_, _%_}
@@ -31,7 +32,12 @@ queued o m = record { queue = o .queue ++ (m ∷ []); running = o .running; hist
 
 -- "A begun message is copied to the transmit buffer"
 abbrev pub begun : Outbox → Outbox
-begun o = record { queue = o .queue; running = first (getD (o .queue) 0 noMessage); history = o .history; mtag = o .mtag }
+begun o = record {
+  queue = o .queue;
+  running = first (getD (o .queue) 0 noMessage);
+  history = o .history;
+  mtag = o .mtag;
+}
 
 -- "abort, an error or lost arbitration leaves it first in the FIFO"; after 0x54, "if it fails or is aborted it is gone"
 abbrev pub halted : Outbox → Outbox
@@ -60,10 +66,12 @@ remaining queue (alone m) = queue
 
 -- "Completion adds tag and time tag to the history; …: eight entries, a ninth is not stored."
 abbrev pub enteredIn : List (List ℕ) → Own → ℕ → List (List ℕ)
-enteredIn history m time = pick (leb 8 (length history)) history (history ++ ((m .tag ∷ time / 256 ∷ time % 256 ∷ []) ∷ []))
+enteredIn history m time =
+    pick (leb 8 (length history)) history
+    (history ++ ((m .tag ∷ time / 256 ∷ time % 256 ∷ []) ∷ []))
 
-abbrev pub sent : Outbox → ℕ → Outbox
-sent o time =
+abbrev pub transmitted : Outbox → ℕ → Outbox
+transmitted o time =
     let m = inFlight (o .running) in
     record {
       queue = remaining (o .queue) (o .running);

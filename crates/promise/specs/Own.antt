@@ -30,8 +30,8 @@ marksExtended s = isSet 3 (byte s 3)
 abbrev pub dataFrom : List ℕ → ℕ
 dataFrom s = pick (marksExtended s) 6 4
 
--- "a standard one has ID28..21 in the first byte, ID20..18 in the second's upper three bits, then RTR"; "the upper half of
--- the length byte is ignored"
+-- "a standard one has ID28..21 in the first byte, ID20..18 in the second's upper three bits, then RTR"; "the upper
+-- half of the length byte is ignored"
 abbrev pub standardWritten : List ℕ → Header
 standardWritten s = record {
   id = (byte s 2 * 8 + byte s 3 / 32 % 8) % 2 ^ 11;
@@ -40,11 +40,12 @@ standardWritten s = record {
   code = byte s 4 % 16;
 }
 
--- "An extended one adds, in the second byte, SRR and IDE as ones and ID17..15, then ID14..7, then ID6..0 with RTR as lowest
--- bit."
+-- "An extended one adds, in the second byte, SRR and IDE as ones and ID17..15, then ID14..7, then ID6..0 with RTR as
+-- lowest bit."
 abbrev pub extendedWritten : List ℕ → Header
 extendedWritten s = record {
-  id = (byte s 2 * 2 ^ 21 + byte s 3 / 32 % 8 * 2 ^ 18 + byte s 3 % 8 * 2 ^ 15 + byte s 4 * 2 ^ 7 + byte s 5 / 2 % 128) % 2 ^ 29;
+  id = (byte s 2 * 2 ^ 21 + byte s 3 / 32 % 8 * 2 ^ 18 + byte s 3 % 8 * 2 ^ 15 +
+      byte s 4 * 2 ^ 7 + byte s 5 / 2 % 128) % 2 ^ 29;
   extended = true;
   remote = isSet 0 (byte s 5);
   code = byte s 6 % 16;
@@ -65,9 +66,11 @@ messageWritten s = record {
 }
 
 -- As the transmit FIFO keeps it, in Table 5's places: the tag for byte 1, and no time yet.
-abbrev pub kept : Own → Message
-kept m = record { bytes = m .tag ∷ 0 ∷ 0 ∷ identifierRead (m .header) ++ m .header .code ∷ m .eight }
+abbrev pub ownMessage : Own → Message
+ownMessage m = record { bytes = m .tag ∷ 0 ∷ 0 ∷ identifierRead (m .header) ++ m .header .code ∷ m .eight }
 
 -- one that can have come by 0x12: a header that can be, and zeros behind its data
 abbrev pub Sendable : Own → Type 0
-Sendable m = (canArrive (m .header) (dataCount (m .header)) ≡ true) × (tabulate (dataByte (m .header) (m .eight)) 1 8 ≡ m .eight)
+Sendable m =
+    (canArrive (m .header) (dataCount (m .header)) ≡ true)
+    × (tabulate (dataByte (m .header) (m .eight)) 1 8 ≡ m .eight)

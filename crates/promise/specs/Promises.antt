@@ -5,7 +5,7 @@ use Rattle.chip.specs.State.{fresh}
 use Rattle.promise.specs.Sequence.{shipped}
 use Rattle.promise.specs.Calls.{IsTheCode}
 use Rattle.promise.specs.Numbers.{Answered, First, Exactly, Refused, NeverOne}
-use Rattle.promise.specs.Held.{Settled, Counted, Timed, Seen, Raised, Pinned, Whole, AsArrived, Sent}
+use Rattle.promise.specs.Held.{Settled, Counted, Timed, Seen, Raised, Pinned, Whole, AsArrived, AsWritten}
 use Rattle.promise.specs.After.{After, Answers, Same, Onward}
 use Rattle.promise.specs.Worked.{Worked}
 
@@ -61,7 +61,7 @@ abbrev pub FieldsStandAsTheyArrived : Type 0
 FieldsStandAsTheyArrived = After shipped AsArrived
 
 abbrev pub OwnMessagesAreThoseWritten : Type 0
-OwnMessagesAreThoseWritten = After shipped Sent
+OwnMessagesAreThoseWritten = After shipped AsWritten
 
 abbrev pub TheAnswersKeepTheRecords : Type 0
 TheAnswersKeepTheRecords = Same shipped

@@ -1,4 +1,5 @@
--- 1: "the state handed in has a count, place or field outside its range" (01, Numbers given back; docs/DECISIONS.md, 41).
+-- 1: "the state handed in has a count, place or field outside its range" (01, Numbers given back; docs/DECISIONS.md,
+-- 41).
 use mathlib.Core.Bool.{Bool, true, false, _&&_, _||_}
 use mathlib.Core.List.{[], _∷_}
 use Prim.Native.Nat.{ℕ}

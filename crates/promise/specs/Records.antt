@@ -1,5 +1,5 @@
--- The records: what is written down along a conversation. Settings, counters, ledger and outbox take what they need from
--- each other (Noted), and none of them sees the device.
+-- The records: what is written down along a conversation. Settings, counters, ledger and outbox take what they need
+-- from each other (Noted), and none of them sees the device.
 use mathlib.Core.List.{List, []}
 use Prim.Native.Nat.{ℕ}
 use Rattle.counters.specs.declared.Counters.{Counters}
@@ -23,7 +23,16 @@ pub record Records : Type 0 where
   pub outbox : Outbox
 
 abbrev pub start : Records
-start = record { settings = atPowerUp; counters = atZero; ticks = 0; kinds = []; flags = []; ledger = cleared; latest = blank; outbox = emptied }
+start = record {
+  settings = atPowerUp;
+  counters = atZero;
+  ticks = 0;
+  kinds = [];
+  flags = [];
+  ledger = cleared;
+  latest = blank;
+  outbox = emptied;
+}
 
 -- ---- the same records, but for one
 

@@ -50,10 +50,12 @@ statf r =
     let c = r .counters in
     let toSend = length (r .outbox .queue) in
     flag (eqb toSend 0) * 128 + flag (leb 8 toSend) * 64 + flag (leb 8 (length (r .outbox .history))) * 32 +
-    flag (warns (c .rec) || tecSays c warns) * 16 + flag (passive (c .rec) || tecSays c passive) * 8 + flag (c .busoff) * 4 +
+    flag (warns (c .rec) || tecSays c warns) * 16 + flag (passive (c .rec) || tecSays c passive) * 8 +
+    flag (c .busoff) * 4 +
     flag (eqb (left (r .ledger)) 0) * 2 + flag (leb 8 (left (r .ledger)))
 
--- TSTAT: 11 while one runs, "00: Transmission not enabled", "01: … FIFO is empty", "10: Waiting to transmit or re-transmit"
+-- TSTAT: 11 while one runs, "00: Transmission not enabled", "01: … FIFO is empty", "10: Waiting to transmit or
+-- re-transmit"
 abbrev pub tstat : Records → ℕ
 tstat r =
     pick (rests (r .outbox .running))

@@ -1,5 +1,5 @@
--- What happens to a device: transfers and events, one after the other, and what is said meanwhile. The promises are said
--- of any machine that takes them, and kept by the one that is shipped.
+-- What happens to a device: transfers and events, one after the other, and what is said meanwhile. The promises are
+-- said of any machine that takes them, and kept by the one that is shipped.
 use mathlib.Core.Bool.{Bool}
 use mathlib.Core.List.{List, [], _∷_}
 use Prim.Native.Nat.{ℕ}
@@ -60,7 +60,8 @@ abbrev pub run : Machine → Device → List Input → Device
 run step d [] = d
 run step d (i ∷ is) = run step (step d i .device) is
 
--- What was said in it: each input, and what was given for it. The records are kept from this, and so never see the device.
+-- What was said in it: each input, and what was given for it. The records are kept from this, and so never see the
+-- device.
 abbrev pub Exchange : Type 0
 Exchange = Input × Given
 

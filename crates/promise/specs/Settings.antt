@@ -1,5 +1,5 @@
--- The settings: what the host wrote, the mode that acts, and whether a sleep waits (01, Modes and filters; 000's pages of
--- CTRL0 and CTRL1).
+-- The settings: what the host wrote, the mode that acts, and whether a sleep waits (01, Modes and filters; 000's
+-- pages of CTRL0 and CTRL1).
 use mathlib.Core.Bool.{Bool, false, not, _&&_, _||_}
 use mathlib.Core.List.{List, [], _∷_, _++_, map}
 use Prim.Native.Nat.{ℕ, _+_, _*_, _/_, _%_}
@@ -9,7 +9,8 @@ use Rattle.base.specs.Bit.{byte, isSet}
 use Rattle.base.specs.Pick.{pick, among}
 use Rattle.chip.specs.declared.Device.{Device}
 use Rattle.chip.specs.declared.Pattern.{Pattern}
-pub use Rattle.promise.specs.Parts.{Settings, with-ctrl1, with-btr0, with-btr1, with-inte, with-statfe, with-gpine, with-filters, with-masks, with-pin, with-mode}
+pub use Rattle.promise.specs.Parts.{Settings, with-ctrl1, with-btr0, with-btr1, with-inte, with-statfe}
+pub use Rattle.promise.specs.Parts.{with-gpine, with-filters, with-masks, with-pin, with-mode}
 use Rattle.promise.specs.Commands.{filterWrites, maskWrites, numbered}
 
 -- ---- the bits that act
@@ -32,7 +33,8 @@ initialization = 0b100
 
 -- "MODE 000 is normal, 001 loopback, 010 monitor, 011 sleep, 1xx initialization": CTRL0's bits 7 to 5
 unfoldable pub modeNamed : ℕ → ℕ
-modeNamed ctrl0 = among (ctrl0 / 32) ((0b000, normal) ∷ (0b001, loopback) ∷ (0b010, monitor) ∷ (0b011, sleep) ∷ []) initialization
+modeNamed ctrl0 =
+    among (ctrl0 / 32) ((0b000, normal) ∷ (0b001, loopback) ∷ (0b010, monitor) ∷ (0b011, sleep) ∷ []) initialization
 
 -- CTRL0: WAKEUP is bit 4, RESET bit 3 of the byte written, BOR bit 2
 abbrev pub wakeup : Settings → Bool
@@ -58,15 +60,41 @@ filton s = isSet 4 (s .ctrl1)
 
 -- "reset gives initialization"; 000: "following reset, filter and mask bits are not reset". The TXEN pin is a wire.
 abbrev pub resetTo : Settings → ℕ → Settings
-resetTo s ctrl0 = record { ctrl0 = ctrl0; ctrl1 = 0; btr0 = 0; btr1 = 0; inte = 0; statfe = 0; gpine = 0; filters = s .filters; masks = s .masks; pin = s .pin; acting = initialization; waits = false }
+resetTo s ctrl0 = record {
+  ctrl0 = ctrl0;
+  ctrl1 = 0;
+  btr0 = 0;
+  btr1 = 0;
+  inte = 0;
+  statfe = 0;
+  gpine = 0;
+  filters = s .filters;
+  masks = s .masks;
+  pin = s .pin;
+  acting = initialization;
+  waits = false;
+}
 
 -- "000's power-up defaults"
 abbrev pub atPowerUp : Settings
-atPowerUp = record { ctrl0 = 0x80; ctrl1 = 0; btr0 = 0; btr1 = 0; inte = 0; statfe = 0; gpine = 0; filters = replicate 8 (replicate 6 0); masks = replicate 8 (replicate 6 0); pin = false; acting = initialization; waits = false }
+atPowerUp = record {
+  ctrl0 = 0x80;
+  ctrl1 = 0;
+  btr0 = 0;
+  btr1 = 0;
+  inte = 0;
+  statfe = 0;
+  gpine = 0;
+  filters = replicate 8 (replicate 6 0);
+  masks = replicate 8 (replicate 6 0);
+  pin = false;
+  acting = initialization;
+  waits = false;
+}
 
--- A write of CTRL0 without RESET. Sleep is waited for: "until then the old mode acts, while CTRL0 reads as written"; "A sleep
--- write while asleep leaves the mode as it is". "Any other mode write withdraws a waiting sleep. If it names a mode other
--- than the acting one, it acts at once".
+-- A write of CTRL0 without RESET. Sleep is waited for: "until then the old mode acts, while CTRL0 reads as written";
+-- "A sleep write while asleep leaves the mode as it is". "Any other mode write withdraws a waiting sleep. If it names
+-- a mode other than the acting one, it acts at once".
 abbrev pub modeWritten : Settings → ℕ → Settings
 modeWritten s value =
     pick (eqb (modeNamed value) sleep)

@@ -1,4 +1,5 @@
--- 01's worked numbers that are marked P, as one table: what the rules give, and what 01 has. Numbers in bytes are lists.
+-- 01's worked numbers that are marked P, as one table: what the rules give, and what 01 has. Numbers in bytes are
+-- lists.
 use mathlib.Core.Path.{_≡_}
 use mathlib.Core.Bool.{Bool, true, false}
 use mathlib.Core.List.{List, [], _∷_, map}
@@ -18,8 +19,8 @@ use Rattle.changed.specs.Changed.{ticked}
 -- the identifier's bytes, as 0x12 has them
 abbrev pub bytesOf : ℕ → Bool → List ℕ
 bytesOf id extended =
-    let sent = idToSend (record { id = id; extended = extended; remote = false; code = 0 }) in
-    take (sent .count) (sent .bytes)
+    let toSend = idToSend (record { id = id; extended = extended; remote = false; code = 0 }) in
+    take (toSend .count) (toSend .bytes)
 
 -- standard 0x123 with two data bytes, and the same with one bit of the identifier off
 abbrev pub frame : List ℕ

@@ -18,7 +18,8 @@ use Rattle.receive.specs.declared.Arrival.{Arrival}
 use Rattle.receive.specs.declared.Arrival.the-variants.{Queued, A1, A2, A3, A4, A5}
 use Rattle.judged.specs.declared.Answer.the-variants.{Refused, Done, Arrived}
 use Rattle.host.specs.Transfer.{replyAfter}
-use Rattle.promise.specs.Sequence.{Input, spi, wire, Given, replied, answered, Step, Machine, shipped, number, values, done}
+use Rattle.promise.specs.Sequence.{Input, spi, wire, Given, replied, answered, Step, Machine, shipped, number}
+use Rattle.promise.specs.Sequence.{values, done}
 use Rattle.promise.specs.Commands.{messageReads, oneOf}
 use Rattle.promise.specs.Settings.{asksReset}
 
@@ -61,7 +62,9 @@ butEvents change d (wire e payload) = change d (wire e payload) (shipped d (wire
 abbrev pub replying : List ℕ → (Device → Device) → Machine
 replying commands draw d (spi bytes buffer) =
     let s : Step = shipped d (spi bytes buffer) in
-    pick (done (s .given) && oneOf (byte bytes 1) commands) (with-given s (replied 0 (replyAfter (draw d) bytes buffer))) s
+    pick (done (s .given) && oneOf (byte bytes 1) commands)
+    (with-given s (replied 0 (replyAfter (draw d) bytes buffer)))
+    s
 replying commands draw d (wire e payload) = shipped d (wire e payload)
 
 -- an arrival was told, and it was n
@@ -74,7 +77,8 @@ completes d i = isSet 5 (shipped (with-regs d (with-intf (d .regs) 0)) i .device
 
 -- the host reset the device, by 0x56 or RESET
 abbrev pub resetDone : List ℕ → Step → Bool
-resetDone bytes s = done (s .given) && (eqb (byte bytes 1) 0x56 || (eqb (byte bytes 1) 0x14 && asksReset (byte bytes 2)))
+resetDone bytes s =
+    done (s .given) && (eqb (byte bytes 1) 0x56 || (eqb (byte bytes 1) 0x14 && asksReset (byte bytes 2)))
 
 -- the command byte taken for another, by pairs
 abbrev pub takenFor : List (ℕ × ℕ) → List ℕ → List ℕ
@@ -149,7 +153,9 @@ takesTwo = but (λ d i s. pick (ltb (s .device .rx .count) (d .rx .count)) (with
 
 -- 01: "A read with too short a buffer takes the message off."
 abbrev pub shortTakes : Machine
-shortTakes = butTransfers (λ d bytes s. pick (eqb (number (s .given)) 4 && oneOf (byte bytes 1) messageReads) (with-queue s (take (d .rx))) s)
+shortTakes =
+    butTransfers (λ d bytes s.
+    pick (eqb (number (s .given)) 4 && oneOf (byte bytes 1) messageReads) (with-queue s (take (d .rx))) s)
 
 -- the queue with its messages changed
 abbrev pub rewritten : (Message → Message) → Fifo → Fifo
@@ -167,7 +173,11 @@ abbrev pub behindIn : Fifo → List ℕ → Fifo
 behindIn q payload =
     let newest = (q .first + q .count - 1) % 8 in
     let m : Message = getD (q .items) newest none in
-    record { items = set (q .items) newest (record { bytes = firstOf 8 (m .bytes) ++ payload }); first = q .first; count = q .count }
+    record {
+      items = set (q .items) newest (record { bytes = firstOf 8 (m .bytes) ++ payload });
+      first = q .first;
+      count = q .count;
+    }
 
 abbrev pub keepsBehind : Machine
 keepsBehind d (spi bytes buffer) = shipped d (spi bytes buffer)
@@ -190,9 +200,14 @@ strangersUnseen = but (λ d i s. pick (tells 4 (s .given)) (with-device s (with-
 
 -- 01: "After 0x54 during a transmission, a new message is written and the old completion removes it."
 abbrev pub oldCompletion : Machine
-oldCompletion = but (λ d i s. pick (eqb (d .sending) alone && completes d i) (with-device s (with-tx (s .device) (take (s .device .tx)))) s)
+oldCompletion =
+    but (λ d i s.
+    pick (eqb (d .sending) alone && completes d i) (with-device s (with-tx (s .device) (take (s .device .tx)))) s)
 
 -- one that begins a message without a copy of it: in loopback zeros arrive
 abbrev pub nothingCopied : Machine
 nothingCopied =
-    but (λ d i s. pick (eqb (d .sending) idle && eqb (s .device .sending) firstInFifo) (with-device s (with-buffer (s .device) none)) s)
+    but (λ d i s.
+    pick (eqb (d .sending) idle && eqb (s .device .sending) firstInFifo)
+    (with-device s (with-buffer (s .device) none))
+    s)

@@ -16,7 +16,8 @@ use Rattle.frame.specs.Received.{headerIn, dataIn}
 use Rattle.chip.specs.declared.Device.{Device}
 use Rattle.chip.specs.declared.Registers.{Registers}
 use Rattle.chip.specs.State.{monitor, sleep, alone}
-use Rattle.chip.specs.Parts.{with-rx, with-counters, with-acting, with-regs, with-ctrl0, with-ctrl1, with-errs, with-intf}
+use Rattle.chip.specs.Parts.{with-rx, with-counters, with-acting, with-regs, with-ctrl0, with-ctrl1, with-errs}
+use Rattle.chip.specs.Parts.{with-intf}
 use Rattle.receive.specs.Receive.{message}
 use Rattle.bus.specs.declared.types.Pins.{Pins}
 use Rattle.bus.specs.Pins.{pins}
@@ -24,7 +25,8 @@ use Rattle.promise.specs.Sequence.{spi, wire, Given, replied, answered, 
 use Rattle.promise.specs.Commands.{messageReads, lengthsOf}
 use Rattle.promise.specs.Registers.{share}
 use Rattle.promise.specs.Settings.{modeNamed}
-use Rattle.promise.specs.Wrong.{but, butTransfers, butEvents, taking, replying, with-device, with-given, with-registers, tells, completes, resetDone, takenFor}
+use Rattle.promise.specs.Wrong.{but, butTransfers, butEvents, taking, replying, with-device, with-given}
+use Rattle.promise.specs.Wrong.{with-registers, tells, completes, resetDone, takenFor}
 
 -- ---- commands and settings
 
@@ -38,7 +40,9 @@ filterElsewhere = taking (takenFor ((0x6A, 0x62) ∷ (0x6C, 0x64) ∷ (0x6E, 0x6
 
 -- a sleep that acts before its quiet bus
 abbrev pub sleepsAtOnce : Machine
-sleepsAtOnce = butTransfers (λ d bytes s. pick (eqb (modeNamed (s .device .regs .ctrl0)) sleep) (with-device s (with-acting (s .device) sleep)) s)
+sleepsAtOnce =
+    butTransfers (λ d bytes s.
+    pick (eqb (modeNamed (s .device .regs .ctrl0)) sleep) (with-device s (with-acting (s .device) sleep)) s)
 
 -- a wake-up that leaves MODE
 abbrev pub modeStays : Machine
@@ -60,7 +64,11 @@ borElsewhere d (wire e payload) =
 
 -- TX1M kept by the completion of a message that 0x54 left alone
 abbrev pub tx1mKept : Machine
-tx1mKept = but (λ d i s. pick (eqb (d .sending) alone && completes d i) (with-registers s (with-ctrl1 (s .device .regs) (d .regs .ctrl1))) s)
+tx1mKept =
+    but (λ d i s.
+    pick (eqb (d .sending) alone && completes d i)
+    (with-registers s (with-ctrl1 (s .device .regs) (d .regs .ctrl1)))
+    s)
 
 -- ---- flags and pins
 
@@ -70,19 +78,25 @@ filtering d = with-regs d (with-ctrl1 (d .regs) (bitOr (d .regs .ctrl1) 0x10))
 
 abbrev pub filtonIgnored : Machine
 filtonIgnored =
-    but (λ d i s. pick (tells 0 (s .given) || tells 5 (s .given))
-    (with-registers s (with-intf (s .device .regs) (bitOr (s .device .regs .intf) (shipped (filtering d) i .device .regs .intf % 4)))) s)
+    but (λ d i s.
+    pick (tells 0 (s .given) || tells 5 (s .given))
+    (with-registers s
+    (with-intf (s .device .regs) (bitOr (s .device .regs .intf) (shipped (filtering d) i .device .regs .intf % 4))))
+    s)
 
 -- ERR's bits 0 and 1 exchanged in what an event sets
 abbrev pub errsExchanged : Machine
 errsExchanged =
     butEvents (λ d i s.
     let set = shipped (with-regs d (with-errs (d .regs) 0)) i .device .regs .errs in
-    pick (done (s .given)) (with-registers s (with-errs (s .device .regs) (bitOr (d .regs .errs) (set / 4 * 4 + bit 0 set * 2 + bit 1 set)))) s)
+    pick (done (s .given))
+    (with-registers s (with-errs (s .device .regs) (bitOr (d .regs .errs) (set / 4 * 4 + bit 0 set * 2 + bit 1 set))))
+    s)
 
 -- the registers after a host's reset, as another device would have them
 abbrev pub resetting : (Registers → Registers → Registers) → Machine
-resetting keep = butTransfers (λ d bytes s. pick (resetDone bytes s) (with-registers s (keep (d .regs) (s .device .regs))) s)
+resetting keep =
+    butTransfers (λ d bytes s. pick (resetDone bytes s) (with-registers s (keep (d .regs) (s .device .regs))) s)
 
 -- a host's reset that clears ERR, and one that keeps INTF
 abbrev pub errCleared : Machine
@@ -93,7 +107,12 @@ intfKept = resetting (λ before after. with-intf after (before .intf))
 
 -- a way to look at the pins that shows INT by STATFE's bits
 abbrev pub intByStatfe : Device → Pins
-intByStatfe d = record { int = share (d .regs .intf) (d .regs .statfe); stat = pins d .stat; gp1 = pins d .gp1; gp2 = pins d .gp2 }
+intByStatfe d = record {
+  int = share (d .regs .intf) (d .regs .statfe);
+  stat = pins d .stat;
+  gp1 = pins d .gp1;
+  gp2 = pins d .gp2;
+}
 
 -- ---- replies
 
@@ -116,7 +135,8 @@ hitAtRead =
 
 -- 01: "one that replies zeros always"
 abbrev pub blanked : List ℕ → Given → Given
-blanked bytes (replied n buffer) = replied n (pick (eqb n 0) (putOf (replicate (lengthsOf (byte bytes 1) .out) 0) buffer) buffer)
+blanked bytes (replied n buffer) =
+    replied n (pick (eqb n 0) (putOf (replicate (lengthsOf (byte bytes 1) .out) 0) buffer) buffer)
 blanked bytes (answered a) = answered a
 
 abbrev pub repliesZeros : Machine
@@ -130,7 +150,9 @@ blind = replying (0xEA ∷ 0xEC ∷ 0xF8 ∷ []) (λ d. with-counters d zeroed)
 abbrev pub groupsAlways : Machine
 groupsAlways =
     replying (0xF8 ∷ [])
-    (λ d. with-counters d (record { rec = d .counters .rec; tec = d .counters .tec; busoff = true; groups = d .counters .groups }))
+    (λ d.
+    with-counters d
+    (record { rec = d .counters .rec; tec = d .counters .tec; busoff = true; groups = d .counters .groups }))
 
 -- one that clears ERR and INTF before it shows them
 abbrev pub clearsFirst : Machine

@@ -1,4 +1,5 @@
--- A frame that the mode takes, from the bus or, in loopback, of our own (01, Numbers given back, and Modes and filters).
+-- A frame that the mode takes, from the bus or, in loopback, of our own (01, Numbers given back, and Modes and
+-- filters).
 use mathlib.Core.Bool.{Bool, true, false}
 use mathlib.Core.List.{List}
 use Prim.Native.Nat.{ℕ}
@@ -17,6 +18,7 @@ use Rattle.chip.specs.declared.Device.{Device}
 use Rattle.chip.specs.Parts.{with-regs, with-filhit, with-rx, with-temp}
 use Rattle.chip.specs.State.{filton, bank}
 use Rattle.receive.specs.declared.Arrival.{Arrival}
+use Rattle.receive.specs.declared.OwnFrame.{OwnFrame}
 use Rattle.receive.specs.declared.Arrival.the-variants.{Queued, A1, A2, A3, A4, A5}
 use Rattle.flags.specs.Flags.{raised, rxtmp, rxfifo, f0mess, f1mess}
 
@@ -25,21 +27,21 @@ unfoldable pub hit : Device → Header → List ℕ → Hit
 hit d h bytes = pick (filton d) (lowest (bank (d .filters)) (bank (d .masks)) (compared h bytes)) Nothing
 
 -- "A5 eight messages wait"
-unfoldable pub room : Device → Arrival
-room d = pick (full (d .rx)) A5 Queued
+unfoldable pub queuedUnlessFull : Device → Arrival
+queuedUnlessFull d = pick (full (d .rx)) A5 Queued
 
 -- "A4 filtering is on and no filter matches"
 unfoldable pub passed : Device → Hit → Arrival
-passed d (Filter k) = room d
+passed d (Filter k) = queuedUnlessFull d
 passed d Nothing = A4
 
 -- the filters first, then the room
-unfoldable pub answered : Device → Hit → Arrival
-answered d found = pick (filton d) (passed d found) (room d)
+unfoldable pub byHit : Device → Hit → Arrival
+byHit d found = pick (filton d) (passed d found) (queuedUnlessFull d)
 
 -- what becomes of a frame that the mode takes
 unfoldable pub filtersAndRoom : Device → Header → List ℕ → Arrival
-filtersAndRoom d h bytes = answered d (hit d h bytes)
+filtersAndRoom d h bytes = byHit d (hit d h bytes)
 
 unfoldable pub isQueued : Arrival → Bool
 isQueued Queued = true
@@ -67,6 +69,9 @@ ownHeader d = headerIn (d .buffer .bytes)
 
 abbrev pub ownData : Device → List ℕ
 ownData d = dataIn (d .buffer .bytes)
+
+unfoldable pub ownFrame : Device → OwnFrame
+ownFrame d = record { header = ownHeader d; payload = ownData d }
 
 -- the frame's sixteen bytes, "what it says of the message fixed when stored"
 abbrev pub message : Device → Header → List ℕ → Message

@@ -1,7 +1,6 @@
 // A frame that the mode takes: the filters, the room, and what an arrival changes.
 ghost use mathlib.Core.Path.{_≡_};
-ghost use Rattle.chip.specs.State.{filton};
-ghost use Rattle.receive.specs.Receive.{hit, room, passed, answered, filtersAndRoom, isQueued, queuedFlag, filterFlag, queueAfter, arrived};
+ghost use Rattle.receive.specs.Receive.{hit, queuedUnlessFull, passed, byHit, filtersAndRoom, isQueued, queuedFlag, filterFlag, queueAfter, ownFrame, arrived};
 use chip::Device;
 use fifo::Fifo;
 use fifo::Message;
@@ -23,17 +22,17 @@ pub enum Arrival {
     A5,
 }
 
-fn filton(d: Device) -> bool
-    ensures { λ r. ⌜ r ≡ filton d ⌝ }
-{
-    (d.regs.ctrl1 >> 4) % 2 == 1
+// The own message that runs, as a frame: in loopback it arrives.
+pub struct OwnFrame {
+    pub header: Header,
+    pub payload: [u8; 8],
 }
 
 // The lowest filter that matches, while filtering is on.
 pub fn hit(d: Device, h: Header, payload: [u8; 8]) -> Hit
     ensures { λ r. ⌜ r ≡ hit d h payload ⌝ }
 {
-    if filton(d) {
+    if chip::filton(d) {
         let filters = d.filters;
         let masks = d.masks;
         let bank = chip::bank(filters);
@@ -45,10 +44,10 @@ pub fn hit(d: Device, h: Header, payload: [u8; 8]) -> Hit
     }
 }
 
-fn room(d: Device) -> Arrival
-    ensures { λ r. ⌜ r ≡ room d ⌝ }
+fn queued_unless_full(d: Device) -> Arrival
+    ensures { λ r. ⌜ r ≡ queuedUnlessFull d ⌝ }
 {
-    if 8 <= d.rx.count {
+    if fifo::full(d.rx) {
         Arrival::A5
     } else {
         Arrival::Queued
@@ -60,23 +59,27 @@ fn passed(d: Device, found: Hit) -> Arrival
     ensures { λ r. ⌜ r ≡ passed d found ⌝ }
 {
     match found {
-        Hit::Filter(_) => room(d),
+        Hit::Filter(_) => queued_unless_full(d),
         Hit::Nothing => Arrival::A4,
     }
 }
 
 // What the filters' match and the room say of a frame.
-fn answered(d: Device, found: Hit) -> Arrival
-    ensures { λ r. ⌜ r ≡ answered d found ⌝ }
+fn by_hit(d: Device, found: Hit) -> Arrival
+    ensures { λ r. ⌜ r ≡ byHit d found ⌝ }
 {
-    if filton(d) { passed(d, found) } else { room(d) }
+    if chip::filton(d) {
+        passed(d, found)
+    } else {
+        queued_unless_full(d)
+    }
 }
 
 // What becomes of a frame that the mode takes.
 pub fn filters_and_room(d: Device, h: Header, payload: [u8; 8]) -> Arrival
     ensures { λ r. ⌜ r ≡ filtersAndRoom d h payload ⌝ }
 {
-    answered(d, hit(d, h, payload))
+    by_hit(d, hit(d, h, payload))
 }
 
 fn is_queued(a: Arrival) -> bool
@@ -119,6 +122,17 @@ fn queue_after(q: Fifo, m: Message, queued: bool) -> Fifo
     ensures { λ r. ⌜ r ≡ queueAfter q m queued ⌝ }
 {
     if queued { fifo::put(q, m) } else { q }
+}
+
+// The message in the transmit buffer.
+pub fn own_frame(d: Device) -> OwnFrame
+    ensures { λ r. ⌜ r ≡ ownFrame d ⌝ }
+{
+    let m = d.buffer;
+    let bytes = m.bytes;
+    let header = frame::header_in(bytes);
+    let payload = frame::data_in(bytes);
+    OwnFrame { header, payload }
 }
 
 // The device with the frame arrived: in the temporary buffer in any case, in the FIFO if it is queued.

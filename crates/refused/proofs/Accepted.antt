@@ -1,4 +1,5 @@
--- An accepted transfer's row is the table's row for its command byte, so its reply is at most sixteen bytes. Assumes nothing.
+-- An accepted transfer's row is the table's row for its command byte, so its reply is at most sixteen bytes. Assumes
+-- nothing.
 use mathlib.Core.Path.{_≡_}
 use mathlib.Core.Bool.{Bool, true, false}
 use mathlib.Core.List.{List}

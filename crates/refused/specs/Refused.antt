@@ -1,4 +1,5 @@
--- The numbers 1 to 7 (01, Numbers given back): "Checks run in rising order; the first that applies is given, and none otherwise."
+-- The numbers 1 to 7 (01, Numbers given back): "Checks run in rising order; the first that applies is given, and none
+-- otherwise."
 use mathlib.Core.Bool.{Bool, true, false, not, _&&_}
 use mathlib.Core.List.{List, [], _∷_}
 use Prim.Native.Nat.{ℕ, _+_}
@@ -7,7 +8,7 @@ use lib.ListN.{length, drop}
 use Rattle.base.specs.Bit.{byte}
 use Rattle.base.specs.Pick.{pick, among}
 use Rattle.fifo.specs.Queue.{eightWait, noneWaits}
-use Rattle.sent.specs.Sent.{rightLength}
+use Rattle.to_send.specs.ToSend.{rightLength}
 use Rattle.chip.specs.declared.Device.{Device}
 use Rattle.chip.specs.Proper.{proper}
 use Rattle.chip.specs.State.{initialization}
@@ -65,7 +66,8 @@ rowJudged d (At r) bytes room =
     (Accepted r)
     (Refused (refusal d r bytes room))
 
--- 1: "the state handed in has a count, place or field outside its range"; an empty transfer has no command byte to judge, so it is 3
+-- 1: "the state handed in has a count, place or field outside its range"; an empty transfer has no command byte to
+-- judge, so it is 3
 unfoldable pub verdict : Device → List ℕ → ℕ → Verdict
 verdict d bytes room =
     pick (proper d)

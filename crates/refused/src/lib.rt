@@ -28,7 +28,7 @@ fn length_fits(r: Row, bytes: &[u8]) -> bool
         return false;
     }
     if v == verb::WRITE_MESSAGE {
-        return sent::right_length(&bytes[1..]);
+        return to_send::right_length(&bytes[1..]);
     }
     true
 }
@@ -56,7 +56,7 @@ fn outside_set_up(acting: u8, v: u8) -> bool
 fn finds_full(waiting: u8, v: u8) -> bool
     ensures { λ r. ⌜ r ≡ findsFull waiting v ⌝ }
 {
-    (v == verb::WRITE_MESSAGE) & (8 <= waiting)
+    (v == verb::WRITE_MESSAGE) & fifo::eight_wait(waiting)
 }
 
 fn reads_message(v: u8) -> bool
@@ -76,9 +76,9 @@ fn finds_none(waiting: u8, entries: u8, v: u8) -> bool
     ensures { λ r. ⌜ r ≡ findsNone waiting entries v ⌝ }
 {
     if reads_message(v) {
-        waiting == 0
+        fifo::none_waits(waiting)
     } else if v == verb::READ_HISTORY {
-        entries == 0
+        fifo::none_waits(entries)
     } else {
         false
     }

@@ -45,8 +45,8 @@ registers d =
 unfoldable pub register : Device → ℕ → ℕ
 register d v = among v (registers d) 0
 
--- Of a message's bytes 1 to 16: 0x42 shows 2 to 16, 0x44 4 to 16, 0x46 all, 0x48 "bytes 1 and 4 to 16", 0x4A "1 to 3 and 9 to 16",
--- 0x4C "1 and 9 to 16"; 0xEE shows 1 to 3 of a sent message, its tag and time tag.
+-- Of a message's bytes 1 to 16: 0x42 shows 2 to 16, 0x44 4 to 16, 0x46 all, 0x48 "bytes 1 and 4 to 16", 0x4A "1 to 3
+-- and 9 to 16", 0x4C "1 and 9 to 16"; 0xEE shows 1 to 3 of a sent message, its tag and time tag.
 abbrev pub views : Device → ℕ → List (ℕ × List ℕ)
 views d k =
     (readTemporaryWithTime, cut (d .temp) 0 1) ∷

@@ -1,4 +1,5 @@
--- What each of the terminal's steps does, by the promises: the records say what is given, and what they have then. Assumes nothing.
+-- What each of the terminal's steps does, by the promises: the records say what is given, and what they have then.
+-- Assumes nothing.
 use mathlib.Core.Path.{_≡_, refl, sym, _∙_, ap}
 use mathlib.Core.Bool.{false, not}
 use mathlib.Core.List.{List, [], _∷_, _++_}

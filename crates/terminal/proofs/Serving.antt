@@ -1,5 +1,5 @@
--- What the terminal's steps mean by the records: a scan that is brought has arrived, and what a read prints is the oldest that
--- was not printed. Assumes nothing.
+-- What the terminal's steps mean by the records: a scan that is brought has arrived, and what a read prints is the
+-- oldest that was not printed. Assumes nothing.
 use mathlib.Core.Path.{_≡_, refl, sym, _∙_, ap}
 use mathlib.Core.Bool.{false}
 use mathlib.Core.List.{List, [], _∷_, _++_, map, append-assoc, append-nil, map-append}

@@ -1,5 +1,5 @@
-// An example of a caller: a terminal on a forklift. The bus brings scans; INT wakes the terminal, which reads messages until
-// RXFMTY and prints each scan. Of `shift` it is proved that what it prints is what arrived.
+// An example of a caller: a terminal on a forklift. The bus brings scans; INT wakes the terminal, which reads
+// messages until RXFMTY and prints each scan. Of `shift` it is proved that what it prints is what arrived.
 ghost use mathlib.Core.Path.{_≡_};
 ghost use Prim.Native.Nat.{_+_, _*_, _/_, _≤_};
 ghost use lib.ListN.{length, take};

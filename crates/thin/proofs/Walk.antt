@@ -82,7 +82,8 @@ module _ (T : Declared) (L : LL.Laws T) (f : T .D → T .D) {M : Type 1} (𝓤 :
           move ! (8 ∷ 9 ∷ 10 ∷ []) $ opens ! tt (row T) {h = h} b o (λ vs.
           spelt ! (row T) (Is (row T)) (shows 𝓤 H A (row T)) (LL.vals T L) (LL.tells T L) fullShare h vs b o $
           move ! (1 ∷ []) $ peeks ! (row T) (Is (row T)) (shows 𝓤 H A (row T)) h (mach ∷ []) (λ is.
-          -- [what a T owns; the struct's cell; the open borrow; obs; auth; room for _3; …; room for _2; …; _1; …; room for _0; …]
+          -- [what a T owns; the struct's cell; the open borrow; obs; auth; room for _3; …; room for _2; …; _1; …;
+          -- room for _0; …]
           assigns ! (of-opd ! (load ! (from ! (hop ! (look ! 9 refl) (stop !))) (look-raw ! 1 refl))) (from ! (stop !))
           (init ! 5 refl (LL.lawful T L 𝓤 H A W .typed h _ is .0)) $
           -- the rule's call, and what it ensures

@@ -1,5 +1,5 @@
--- A thin function over a struct behind a reference, and the rule by value that it calls: what each is and what each states.
--- `T` is any struct of plain data and `f` any function on its values.
+-- A thin function over a struct behind a reference, and the rule by value that it calls: what each is and what each
+-- states. `T` is any struct of plain data and `f` any function on its values.
 --
 --     fn rule(c: T) -> T      ensures { λ r. ⌜ r ≡ f c ⌝ }
 --     fn thin(c: &mut T)      ensures { λ _. ⌜ now (c .exit) ≡ f (now (c .entry)) ⌝ }      { *c = rule(*c); }

@@ -65,8 +65,8 @@ cleared d = with-sending (with-tx (with-regs d (disabled (d .regs))) empty) (lef
 unfoldable pub stamped : Message → ℕ → Message
 stamped m time = record { bytes = byte (m .bytes) 1 ∷ (timeBytes time ++ drop 3 (m .bytes)) }
 
--- The completed message "leaves the FIFO when completed", unless 0x54 took it out before. "After 0x54 during a transmission, a new message is
--- written and the old completion removes it. It must stay."
+-- The completed message "leaves the FIFO when completed", unless 0x54 took it out before. "After 0x54 during a
+-- transmission, a new message is written and the old completion removes it. It must stay."
 unfoldable pub fifoAfter : Fifo → ℕ → Fifo
 fifoAfter tx sending = pick (eqb sending firstInFifo) (take tx) tx
 
@@ -78,9 +78,10 @@ countedCompletion c acting = unlessMonitor acting c (completed c)
 abbrev pub tagBits : Message → ℕ
 tagBits m = byte (m .bytes) 1 % 4
 
--- TX1M "is reset automatically upon completion". "Completion adds tag and time tag to the history; … a ninth is not stored."
-unfoldable pub sent : Device → Device
-sent d =
+-- TX1M "is reset automatically upon completion". "Completion adds tag and time tag to the history; … a ninth is not
+-- stored."
+unfoldable pub transmitted : Device → Device
+transmitted d =
     raised
     (with-history
     (with-sending

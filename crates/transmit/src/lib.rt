@@ -1,7 +1,7 @@
 // A transmission: when it may begin, its start, and each of its ends.
 ghost use mathlib.Core.Path.{_≡_};
 ghost use Rattle.transmit.specs.Transmit.{sends, canBegin, withoutTx1m, begun, stopped, aborted, cleared, stamped};
-ghost use Rattle.transmit.specs.Transmit.{ctrl1Begun, leftAlone, fifoAfter, countedCompletion, sent};
+ghost use Rattle.transmit.specs.Transmit.{ctrl1Begun, leftAlone, fifoAfter, countedCompletion, transmitted};
 use chip::ALONE;
 use chip::Device;
 use chip::FIRST_IN_FIFO;
@@ -24,7 +24,7 @@ pub fn can_begin(d: Device) -> bool
     ensures { λ r. ⌜ r ≡ canBegin d ⌝ }
 {
     (d.sending == IDLE)
-        & (d.tx.count != 0)
+        & !fifo::is_empty(d.tx)
         & chip::enabled(d)
         & sends(d.acting)
         & !d.counters.busoff
@@ -39,7 +39,7 @@ fn without_tx1m(ctrl1: u8) -> u8
 fn ctrl1_begun(ctrl1: u8) -> u8
     ensures { λ r. ⌜ r ≡ ctrl1Begun ctrl1 ⌝ }
 {
-    if (ctrl1 >> 5) % 2 == 1 {
+    if chip::osm(ctrl1) {
         without_tx1m(ctrl1)
     } else {
         ctrl1
@@ -128,8 +128,8 @@ fn counted_completion(c: Counters, acting: u8) -> Counters
 }
 
 // The running message is sent.
-pub fn sent(d: Device) -> Device
-    ensures { λ r. ⌜ r ≡ sent d ⌝ }
+pub fn transmitted(d: Device) -> Device
+    ensures { λ r. ⌜ r ≡ transmitted d ⌝ }
 {
     let waiting = d.tx;
     let tx = fifo_after(waiting, d.sending);

@@ -1,4 +1,5 @@
-// Number 1: of each range that `chip::proper` asks for, a device just outside it and its neighbour at the bound, at both doors.
+// Number 1: of each range that `chip::proper` asks for, a device just outside it and its neighbour at the bound, at
+// both doors.
 use crate::say::say;
 use crate::say::say_answer;
 use crate::say::say_number;

@@ -1,4 +1,5 @@
--- `bench::round` is safe and ends. The loop's invariant: the place is within the list, and the results keep their length. Assumes nothing.
+-- `bench::round` is safe and ends. The loop's invariant: the place is within the list, and the results keep their
+-- length. Assumes nothing.
 use mathlib.Core.Path.{_≡_}
 use Prim.Native.Nat.{_≤_, _-_}
 use lib.ListN.{length}

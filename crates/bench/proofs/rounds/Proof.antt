@@ -1,4 +1,5 @@
--- `bench::rounds` is safe and ends. The loop's invariant: the rounds so far are at most those asked for, and the results keep their length.
+-- `bench::rounds` is safe and ends. The loop's invariant: the rounds so far are at most those asked for, and the
+-- results keep their length.
 use mathlib.Core.Path.{_≡_}
 use Prim.Native.Nat.{_≤_, _-_}
 use lib.ListN.{length}

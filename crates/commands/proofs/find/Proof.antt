@@ -6,6 +6,9 @@ use Rattle.commands.proofs.Rows.{rows-length, at-place, no-place}
 use Rattle.commands.proofs.find.Statement.{statement}
 use Rattle.commands.proofs.find.Tie as tie
 
+at-requires : tie.Need-at-requires
+at-requires c κs = omega (arith, rows-length, c .if1 .taken)
+
 returns : tie.Need-returns
 returns c =
     let place = c .before .before .place .ensures in
@@ -15,4 +18,4 @@ returns-2 : tie.Need-returns-2
 returns-2 c = no-place rows (c .before .before .args .command) (omega (arith, rows-length, c .before .place .ensures, c .if1 .left))
 
 pub find-spec : {M : Type 1} → statement M
-find-spec = tie.close (tie.spec (search needs) (search needs) (search needs) returns returns-2)
+find-spec = tie.close (tie.spec (search needs) (search needs) at-requires returns returns-2)

@@ -1,5 +1,5 @@
--- `commands::place` meets its contract: the places are the rule's, for each of the 256 bytes, which antt computes once. Assumes
--- nothing.
+-- `commands::place` meets its contract: the places are the rule's, for each of the 256 bytes, which antt computes
+-- once. Assumes nothing.
 use mathlib.Core.Path.{_≡_, ap, _∙_}
 use mathlib.Core.List.{List, []}
 use Prim.Native.Nat.{ℕ, _+_, _*_, _/_, _%_}

@@ -24,20 +24,23 @@ unfolding statf
 returns c =
     rw (
       c .flag8 .ensures .0,
+      c .before .full3 .ensures,
       c .before .before .flag7 .ensures .0,
+      c .before .before .before .is-empty2 .ensures,
       c .before .before .before .before .flag6 .ensures .0,
       c .before .before .before .before .before .flag5 .ensures .0,
       c .before .before .before .before .before .before .errp .ensures,
       c .before .before .before .before .before .before .before .flag4 .ensures .0,
       c .before .before .before .before .before .before .before .before .errw .ensures,
       c .before .before .before .before .before .before .before .before .before .flag3 .ensures .0,
+      c .before .before .before .before .before .before .before .before .before .before .full2 .ensures,
       c .before .before .before .before .before .before .before .before .before .before .before .flag2 .ensures .0,
+      c .before .before .before .before .before .before .before .before .before .before .before .before .full .ensures,
       c .before .before .before .before .before .before .before .before .before .before .before .before .before .flag .ensures .0,
+      c .before .before .before .before .before .before .before .before .before .before .before .before .before .before .is-empty .ensures,
     )
 
 pub statf-spec : {M : Type 1} → statement M
 statf-spec =
     tie.close
-    (tie.spec (search needs) (search needs) (search needs) (search needs) (search needs) (search needs) (search needs) (search needs)
-    (search needs) (search needs) (search needs) (search needs) (search needs) (search needs) (search needs) (search needs) (search needs)
-    (search needs) (search needs) (search needs) (search needs) (search needs) (search needs) add-result-7 returns)
+    (tie.spec (search needs) (search needs) (search needs) (search needs) (search needs) (search needs) (search needs) (search needs) (search needs) (search needs) (search needs) (search needs) (search needs) (search needs) (search needs) (search needs) (search needs) (search needs) (search needs) (search needs) (search needs) (search needs) (search needs) (search needs) (search needs) (search needs) (search needs) (search needs) add-result-7 returns)

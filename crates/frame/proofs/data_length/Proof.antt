@@ -1,4 +1,5 @@
--- `frame::data_length` meets its contract: the table is the rule's, entry by entry, which antt computes once. Assumes nothing.
+-- `frame::data_length` meets its contract: the table is the rule's, entry by entry, which antt computes once. Assumes
+-- nothing.
 use native.Mathlib.Omega.{arith}
 use borrow.Author.Tests.{lt-leb}
 use borrow.Author.Needs.{needs}

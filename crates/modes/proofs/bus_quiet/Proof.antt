@@ -7,7 +7,7 @@ use Rattle.modes.proofs.bus_quiet.Tie as tie
 
 returns : tie.Need-returns
 unfolding busQuiet
-returns c = rw (c .changed .ensures, ← c .before .before .can-sleep .ensures) (search (picks, c .before .if1 .taken))
+returns c = rw (c .mode-changed .ensures, ← c .before .before .can-sleep .ensures) (search (picks, c .before .if1 .taken))
 
 returns-2 : tie.Need-returns-2
 unfolding busQuiet

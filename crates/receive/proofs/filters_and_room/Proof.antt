@@ -6,7 +6,7 @@ use Rattle.receive.proofs.filters_and_room.Tie as tie
 
 returns : tie.Need-returns
 unfolding filtersAndRoom
-returns c = rw (c .answered .ensures, c .before .hit .ensures)
+returns c = rw (c .by-hit .ensures, c .before .hit .ensures)
 
 pub filters-and-room-spec : {M : Type 1} → statement M
 filters-and-room-spec = tie.close (tie.spec (search needs) (search needs) returns)

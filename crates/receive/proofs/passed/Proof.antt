@@ -6,7 +6,7 @@ use Rattle.receive.proofs.passed.Tie as tie
 
 returns : tie.Need-returns
 unfolding passed
-returns c = rw (c .before .enum-told .given .1) (c .room .ensures)
+returns c = rw (c .before .enum-told .given .1) (c .queued-unless-full .ensures)
 
 returns-2 : tie.Need-returns-2
 unfolding passed

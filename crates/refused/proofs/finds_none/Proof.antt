@@ -7,13 +7,15 @@ use Rattle.refused.proofs.finds_none.Tie as tie
 
 returns-2 : tie.Need-returns-2
 unfolding findsNone
-returns-2 c = rw (← c .before .before .reads-message .ensures) (search (picks, judges, c .if2 .taken, c .before .if1 .left))
+returns-2 c =
+    rw (← c .before .before .before .reads-message .ensures, ← c .none-waits2 .ensures)
+    (search (picks, judges, c .before .if2 .taken, c .before .before .if1 .left))
 
 pub finds-none-spec : {M : Type 1} → statement M
 unfolding findsNone
 finds-none-spec =
     tie.close
-    (tie.spec (search needs)
-    (λ c. rw (← c .before .reads-message .ensures) (search (picks, judges, c .if1 .taken)))
+    (tie.spec (search needs) (search needs) (search needs)
+    (λ c. rw (← c .before .before .reads-message .ensures, ← c .none-waits .ensures) (search (picks, judges, c .before .if1 .taken)))
     returns-2
     (λ c. rw (← c .before .before .reads-message .ensures) (search (picks, judges, c .if2 .left, c .before .if1 .left))))

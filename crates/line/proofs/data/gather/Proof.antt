@@ -1,5 +1,5 @@
--- `line::data::gather` meets its contract. The loop's invariant: with the words that are left, the data so far is the data of all.
--- Assumes nothing.
+-- `line::data::gather` meets its contract. The loop's invariant: with the words that are left, the data so far is the
+-- data of all. Assumes nothing.
 use mathlib.Core.Path.{_≡_, sym, ap, _∙_}
 use Prim.Native.Nat.{_≤_, _-_}
 use lib.ListN.{length, drop}

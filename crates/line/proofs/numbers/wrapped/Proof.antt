@@ -1,4 +1,5 @@
--- `line::numbers::wrapped` meets its contract. The loop's invariant: what is left says the whole, in 16 bits. Assumes nothing.
+-- `line::numbers::wrapped` meets its contract. The loop's invariant: what is left says the whole, in 16 bits. Assumes
+-- nothing.
 use Prim.Native.Nat.{ℕ, _≤_, _<_, _-_, _+_, _*_}
 use mathlib.Core.Path.{_≡_, refl, sym, _∙_, ap}
 use lib.ListN.{length, drop, getD, drop-of-length-le}

@@ -1,4 +1,5 @@
--- `line::words::comment` meets its contract. The loop's invariant: what is left has the rest of the run. Assumes nothing.
+-- `line::words::comment` meets its contract. The loop's invariant: what is left has the rest of the run. Assumes
+-- nothing.
 use Prim.Native.Nat.{_≤_, _-_, _+_}
 use mathlib.Core.Path.{_≡_, sym, _∙_, ap}
 use lib.ListN.{length, drop, drop-of-length-le}

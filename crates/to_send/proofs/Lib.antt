@@ -1,0 +1,3 @@
+pub mod Enough
+pub mod WrittenBack
+pub mod StoredBack
