@@ -90,8 +90,8 @@ fn unreadable(
     raw(out, n, b'\n')
 }
 
-fn transfer(d: Device, given: [u8; 16], count: usize, room: u8, out: &mut [u8], at: usize) -> Turn {
-    let t = device::transfer(d, given, count, room);
+fn transfer(d: Device, given: [u8; 16], count: usize, lent: u8, out: &mut [u8], at: usize) -> Turn {
+    let t = device::transfer(d, given, count, lent);
     let device = t.device;
     let reply = t.reply;
     let n = decimal(out, at, t.number as u64);
@@ -148,7 +148,7 @@ pub(crate) fn answer(d: Device, line: &[u8], number: u64, out: &mut [u8], at: us
             device: d,
             used: at,
         },
-        Asked::Transfer(room) => transfer(d, given, count, room, out, at),
+        Asked::Transfer(lent) => transfer(d, given, count, lent, out, at),
         Asked::Happens(event) => happens(d, event, given, out, at),
         Asked::Pins => {
             let used = pins(d, out, at);

@@ -29,9 +29,9 @@ fn reply_length(command: u8) -> usize {
     }
 }
 
-pub(crate) fn transfer(d: Device, bytes: [u8; 16], count: usize, room: u8) -> Transferred {
+pub(crate) fn transfer(d: Device, bytes: [u8; 16], count: usize, lent: u8) -> Transferred {
     let given = at_most_16(count);
-    let lent = at_most_16(room as usize);
+    let lent = at_most_16(lent as usize);
     let mut reply = [0u8; 16];
     let o = host::transfer(d, &bytes[..given], &mut reply[..lent]);
     let device = o.device;

@@ -18,7 +18,7 @@ outcome d bytes (Accepted r) = record { device = does d (r .verb) (r .index) byt
 
 -- the device, the transfer's bytes, the lent buffer's length
 unfoldable pub transfer : Device → List ℕ → ℕ → Outcome
-transfer d bytes room = outcome d bytes (verdict d bytes room)
+transfer d bytes lent = outcome d bytes (verdict d bytes lent)
 
 -- "A success fills the start of the buffer with the reply; later bytes stay."
 abbrev pub reply : Device → Verdict → List ℕ → List ℕ

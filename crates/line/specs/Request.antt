@@ -66,7 +66,7 @@ chosen Neither e w request = unreadable e w
 -- ---- `spi B B …`: a reply buffer of sixteen bytes; `spi/N B B …`: one of N, in decimal, 0 to 16
 
 unfoldable pub transferOf : ℕ → List (List ℕ) → Line
-transferOf room ws = need (areBytes ws) Byte (firstOther ws) (withData (Transfer room) (kept ws))
+transferOf lent ws = need (areBytes ws) Byte (firstOther ws) (withData (Transfer lent) (kept ws))
 
 unfoldable pub sizedOf : List ℕ → List (List ℕ) → Line
 sizedOf w ws =

@@ -15,12 +15,12 @@ use crate::numbers::capped;
 use crate::numbers::is_number;
 use crate::words::is;
 
-pub(crate) fn transfer(room: u8, s: &[u8], at: usize) -> Line
+pub(crate) fn transfer(lent: u8, s: &[u8], at: usize) -> Line
     requires { ⌜ at ≤ length (now s) ⌝ }
-    ensures { λ r. ⌜ r ≡ transferOf room (wordsOf (drop at (now (s .entry)))) ⌝ }
+    ensures { λ r. ⌜ r ≡ transferOf lent (wordsOf (drop at (now (s .entry)))) ⌝ }
 {
     let d = gather(s, at);
-    carrying(Asked::Transfer(room), d)
+    carrying(Asked::Transfer(lent), d)
 }
 
 pub(crate) fn is_sized(word: &[u8]) -> bool

@@ -40,7 +40,7 @@ module _ (M : Type 1) where
 
   -- ---- refused
   pub refused·judge : OneResult M refused.judge.ended refused.judge.spec
-  refused·judge = result refused.judge.clauses (λ _ d bytes room. Refused.verdict d (now bytes) room) refl
+  refused·judge = result refused.judge.clauses (λ _ d bytes lent. Refused.verdict d (now bytes) lent) refl
 
   -- ---- shown
   pub shown·shows : OneResult M shown.shows.ended shown.shows.spec

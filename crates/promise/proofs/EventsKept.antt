@@ -16,7 +16,7 @@ use Rattle.frame.specs.Length.{possible, dataFits}
 use Rattle.chip.specs.declared.Device.{Device}
 use Rattle.chip.specs.State.{loopback, idle, bor}
 use Rattle.flags.specs.Flags.{raised, busError}
-use Rattle.transmit.specs.Transmit.{canBegin, withoutTx1m as cleared6, ctrl1Begun, begun, stopped, countedCompletion, transmitted}
+use Rattle.transmit.specs.Transmit.{canBegin, withoutTx1m as tx1mCleared, ctrl1Begun, begun, stopped, countedCompletion, transmitted}
 use Rattle.receive.specs.declared.Arrival.{Arrival}
 use Rattle.receive.specs.Receive.{arrived, filtersAndRoom, ownHeader, ownData}
 use Rattle.events.specs.declared.ErrorKind.{ErrorKind}
@@ -62,7 +62,7 @@ module _ (d : Device) (r : Records) (h : Kept d r) where
   -- ---- transmissions
 
   pub transmitted-kept : rests (r .outbox .running) ≡ false → Kept (transmitted d) (completedMet r)
-  unfolding transmitted raised cleared6 countedCompletion completed
+  unfolding transmitted raised tx1mCleared countedCompletion completed
   transmitted-kept some = (
     ap withoutTx1m (h .0),
     h .1,
@@ -76,7 +76,7 @@ module _ (d : Device) (r : Records) (h : Kept d r) where
   one-shot false s v = refl
 
   pub begun-kept : canBegin d ≡ true → Kept (begun d) (begunMet r)
-  unfolding begun canBegin ctrl1Begun cleared6
+  unfolding begun canBegin ctrl1Begun tx1mCleared
   begun-kept can = (
     one-shot (osm (settingsOf d)) (settingsOf d) _ ∙ ap (λ (s : Settings). pick (osm s) (withoutTx1m s) s) (h .0),
     h .1,

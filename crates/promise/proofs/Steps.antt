@@ -70,21 +70,21 @@ sound-pick : (t : Bool) (n : ℕ) (r : Row) → eqb n 0 ≡ t → Sound (pick t 
 sound-pick true n r e = tt
 sound-pick false n r e = e
 
-row-sound : (d : Device) (f : Found) (bytes : List ℕ) (room : ℕ) → Sound (rowJudged d f bytes room)
+row-sound : (d : Device) (f : Found) (bytes : List ℕ) (lent : ℕ) → Sound (rowJudged d f bytes lent)
 unfolding rowJudged
-row-sound d Nothing bytes room = refl
-row-sound d (At r) bytes room = sound-pick (eqb (refusal d r bytes room) 0) (refusal d r bytes room) r refl
+row-sound d Nothing bytes lent = refl
+row-sound d (At r) bytes lent = sound-pick (eqb (refusal d r bytes lent) 0) (refusal d r bytes lent) r refl
 
 checks-sound : (p q : Bool) (v : Verdict) → Sound v → Sound (pick p (pick q (Refused 3) v) (Refused 1))
 checks-sound true true v s = refl
 checks-sound true false v s = s
 checks-sound false q v s = refl
 
-judged-sound : (d : Device) (bytes : List ℕ) (room : ℕ) → Sound (verdict d bytes room)
+judged-sound : (d : Device) (bytes : List ℕ) (lent : ℕ) → Sound (verdict d bytes lent)
 unfolding verdict
-judged-sound d bytes room =
-    checks-sound (proper d) (eqb (length bytes) 0) (rowJudged d (lookup rows (byte bytes 1)) bytes room)
-    (row-sound d (lookup rows (byte bytes 1)) bytes room)
+judged-sound d bytes lent =
+    checks-sound (proper d) (eqb (length bytes) 0) (rowJudged d (lookup rows (byte bytes 1)) bytes lent)
+    (row-sound d (lookup rows (byte bytes 1)) bytes lent)
 
 same-step : (d : Device) (bytes buffer : List ℕ) (v : Verdict)
     → record { device = hostOutcome d bytes v .device; given = replied (hostOutcome d bytes v .number) (reply d v buffer) }

@@ -19,24 +19,24 @@ use Rattle.refused.specs.declared.Verdict.{Verdict}
 use Rattle.refused.specs.declared.Verdict.the-variants.{Refused, Accepted}
 use Rattle.refused.specs.Refused.{refusal, rowJudged, verdict}
 
-module _ (d : Device) (bytes : List ℕ) (room : ℕ) (r : Row) where
+module _ (d : Device) (bytes : List ℕ) (lent : ℕ) (r : Row) where
   same-row : (t : Bool) (s : Row) (n : ℕ) → pick t (Accepted s) (Refused n) ≡ Accepted r → At s ≡ At r
   same-row true s n e = cc
   same-row false s n e = cc
 
-  row-found : (f : Found) → rowJudged d f bytes room ≡ Accepted r → f ≡ At r
+  row-found : (f : Found) → rowJudged d f bytes lent ≡ Accepted r → f ≡ At r
   unfolding rowJudged
   row-found Nothing e = cc
-  row-found (At s) e = same-row (eqb (refusal d s bytes room) 0) s (refusal d s bytes room) e
+  row-found (At s) e = same-row (eqb (refusal d s bytes lent) 0) s (refusal d s bytes lent) e
 
   past-checks : (p q : Bool) (v : Verdict) → pick p (pick q (Refused 3) v) (Refused 1) ≡ Accepted r → v ≡ Accepted r
   past-checks true true v e = cc
   past-checks true false v e = e
   past-checks false q v e = cc
 
-  pub accepted-found : verdict d bytes room ≡ Accepted r → lookup rows (byte bytes 1) ≡ At r
+  pub accepted-found : verdict d bytes lent ≡ Accepted r → lookup rows (byte bytes 1) ≡ At r
   unfolding verdict
   accepted-found e = row-found (lookup rows (byte bytes 1)) (past-checks (proper d) (eqb (length bytes) 0) _ e)
 
-  pub accepted-out : verdict d bytes room ≡ Accepted r → r .out ≤ 16
+  pub accepted-out : verdict d bytes lent ≡ Accepted r → r .out ≤ 16
   accepted-out e = out-le (byte bytes 1) r (accepted-found e)

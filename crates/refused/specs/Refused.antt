@@ -50,9 +50,9 @@ findsNone waiting entries v =
 
 -- 3 to 7 for a command in the table, and 0 where none applies; 4: "the lent reply buffer is shorter than the reply"
 unfoldable pub refusal : Device → Row → List ℕ → ℕ → ℕ
-refusal d r bytes room =
+refusal d r bytes lent =
     pick (not (lengthFits r bytes)) 3
-    (pick (ltb room (r .out)) 4
+    (pick (ltb lent (r .out)) 4
     (pick (outsideSetUp (d .acting) (r .verb)) 5
     (pick (findsFull (d .tx .count) (r .verb)) 6
     (pick (findsNone (d .rx .count) (d .history .count) (r .verb)) 7
@@ -60,16 +60,16 @@ refusal d r bytes room =
 
 -- 2: "the command byte is not in 000's Table 1, or is a factory command"
 unfoldable pub rowJudged : Device → Found → List ℕ → ℕ → Verdict
-rowJudged d Nothing bytes room = Refused 2
-rowJudged d (At r) bytes room =
-    pick (eqb (refusal d r bytes room) 0)
+rowJudged d Nothing bytes lent = Refused 2
+rowJudged d (At r) bytes lent =
+    pick (eqb (refusal d r bytes lent) 0)
     (Accepted r)
-    (Refused (refusal d r bytes room))
+    (Refused (refusal d r bytes lent))
 
 -- 1: "the state handed in has a count, place or field outside its range"; an empty transfer has no command byte to
 -- judge, so it is 3
 unfoldable pub verdict : Device → List ℕ → ℕ → Verdict
-verdict d bytes room =
+verdict d bytes lent =
     pick (proper d)
-    (pick (eqb (length bytes) 0) (Refused 3) (rowJudged d (lookup rows (byte bytes 1)) bytes room))
+    (pick (eqb (length bytes) 0) (Refused 3) (rowJudged d (lookup rows (byte bytes 1)) bytes lent))
     (Refused 1)

@@ -85,12 +85,12 @@ fn finds_none(waiting: u8, entries: u8, v: u8) -> bool
 }
 
 // The first number that applies to a command in the table, or 0.
-fn refusal(d: Device, r: Row, bytes: &[u8], room: usize) -> u8
-    ensures { λ r'. ⌜ r' ≡ refusal d r (now (bytes .entry)) room ⌝ }
+fn refusal(d: Device, r: Row, bytes: &[u8], lent: usize) -> u8
+    ensures { λ r'. ⌜ r' ≡ refusal d r (now (bytes .entry)) lent ⌝ }
 {
     let v = r.verb;
     let fits = length_fits(r, bytes);
-    let short = room < r.out as usize;
+    let short = lent < r.out as usize;
     let outside = outside_set_up(d.acting, v);
     let full = finds_full(d.tx.count, v);
     let none = finds_none(d.rx.count, d.history.count, v);
@@ -112,13 +112,13 @@ fn refusal(d: Device, r: Row, bytes: &[u8], room: usize) -> u8
     0
 }
 
-fn row_judged(d: Device, found: Found, bytes: &[u8], room: usize) -> Verdict
-    ensures { λ r. ⌜ r ≡ rowJudged d found (now (bytes .entry)) room ⌝ }
+fn row_judged(d: Device, found: Found, bytes: &[u8], lent: usize) -> Verdict
+    ensures { λ r. ⌜ r ≡ rowJudged d found (now (bytes .entry)) lent ⌝ }
 {
     match found {
         Found::Nothing => Verdict::Refused(2),
         Found::At(row) => {
-            let number = refusal(d, row, bytes, room);
+            let number = refusal(d, row, bytes, lent);
             if number == 0 {
                 Verdict::Accepted(row)
             } else {
@@ -128,15 +128,15 @@ fn row_judged(d: Device, found: Found, bytes: &[u8], room: usize) -> Verdict
     }
 }
 
-pub fn judge(d: Device, bytes: &[u8], room: usize) -> Verdict
-    ensures { λ r. ⌜ r ≡ verdict d (now (bytes .entry)) room ⌝ }
+pub fn judge(d: Device, bytes: &[u8], lent: usize) -> Verdict
+    ensures { λ r. ⌜ r ≡ verdict d (now (bytes .entry)) lent ⌝ }
 {
     if chip::proper(d) {
         if bytes.len() == 0 {
             return Verdict::Refused(3);
         }
         let found = commands::find(base::at(bytes, 0));
-        return row_judged(d, found, bytes, room);
+        return row_judged(d, found, bytes, lent);
     }
     Verdict::Refused(1)
 }

@@ -28,12 +28,12 @@ use Rattle.terminal.specs.declared.Turn.{Turn}
 abbrev pub written : Device → ℕ → ℕ → Device
 written d command value = transfer d (command ∷ value ∷ []) 0 .device
 
--- a command alone, with room for its reply
+-- a command alone, with as many bytes lent for its reply
 abbrev pub asked : Device → ℕ → ℕ → Device
-asked d command room = transfer d (command ∷ []) room .device
+asked d command lent = transfer d (command ∷ []) lent .device
 
 abbrev pub reply : Device → ℕ → ℕ → List ℕ
-reply d command room = replyAfter d (command ∷ []) (replicate room 0)
+reply d command lent = replyAfter d (command ∷ []) (replicate lent 0)
 
 -- INTE gets RXFIFOIE, CTRL0 normal mode, and INTF is read, since the mode change raised MCHG
 abbrev pub switchedOn : Device

@@ -11,9 +11,9 @@ use Rattle.refused.proofs.refusal.Tie as tie
 -- the rule, with the answers that the code has
 told : (c : tie.After-finds-none)
     → let a = c .before .before .before .before .before .before .args in
-    refusal (a .d) (a .r) (a .bytes .now) (a .room)
+    refusal (a .d) (a .r) (a .bytes .now) (a .lent)
     ≡ pick (not (c .before .before .before .before .length-fits .result)) 3
-    (pick (ltb (a .room) (a .r .out)) 4
+    (pick (ltb (a .lent) (a .r .out)) 4
     (pick (c .before .before .outside-set-up .result) 5
     (pick (c .before .finds-full .result) 6
     (pick (c .finds-none .result) 7

@@ -12,7 +12,7 @@ unfolding transferOf
 returns c =
     let a = c .before .before .before .args in
     let g = c .before .gather in
-    c .carrying .ensures ∙ data-carried (λ n. Transfer (a .room)) _ (g .result) (g .ensures)
+    c .carrying .ensures ∙ data-carried (λ n. Transfer (a .lent)) _ (g .result) (g .ensures)
 
 pub transfer-spec : {M : Type 1} → statement M
 transfer-spec = tie.close (tie.spec (search needs) (search needs) returns)
