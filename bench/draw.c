@@ -73,17 +73,17 @@ void drawn_bytes(struct draw *s)
     uint8_t b[16];
     for (unsigned i = 0; i < 16; i++)
         b[i] = upto(s, 256);
-    unsigned room = upto(s, 17);
-    spi_room(s->w, room, b, upto(s, 17));
+    unsigned lent = upto(s, 17);
+    spi_lent(s->w, lent, b, upto(s, 17));
 }
 
-/* Mostly with the command's own length and room. */
+/* Mostly with the command's own length, and enough lent for its reply. */
 void drawn_transfer(struct draw *s, const uint8_t *bytes, unsigned count)
 {
     uint8_t b[16] = {0};
     memcpy(b, bytes, count);
-    unsigned room = chance(s, 12) ? upto(s, 17) : 16;
-    spi_room(s->w, room, b, chance(s, 24) ? upto(s, 17) : count);
+    unsigned lent = chance(s, 12) ? upto(s, 17) : 16;
+    spi_lent(s->w, lent, b, chance(s, 24) ? upto(s, 17) : count);
 }
 
 void drawn_read(struct draw *s)

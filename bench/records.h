@@ -21,16 +21,16 @@ static inline void little32(uint8_t *p, uint32_t v)
         p[i] = v >> 8 * i;
 }
 
-static inline void spi_room(struct work *w, unsigned room, const void *bytes, unsigned count)
+static inline void spi_lent(struct work *w, unsigned lent, const void *bytes, unsigned count)
 {
     uint8_t *r = add(w, WORK_TRANSFER);
-    r[1] = room;
+    r[1] = lent;
     r[2] = count;
     memcpy(r + 4, bytes, count);
 }
 
 /* A transfer of the bytes named, with a whole reply buffer of 16. */
-#define SPI(w, ...) spi_room(w, 16, (const uint8_t[]){__VA_ARGS__}, sizeof (const uint8_t[]){__VA_ARGS__})
+#define SPI(w, ...) spi_lent(w, 16, (const uint8_t[]){__VA_ARGS__}, sizeof (const uint8_t[]){__VA_ARGS__})
 
 static inline void event(struct work *w, unsigned kind, unsigned a, unsigned b)
 {
@@ -84,7 +84,7 @@ static inline void message(struct work *w, unsigned flags, uint32_t id, unsigned
     b[n++] = code;
     for (unsigned i = 0; i < data; i++)
         b[n++] = tag + i;
-    spi_room(w, 16, b, n);
+    spi_lent(w, 16, b, n);
 }
 
 static inline void reset_to(struct work *w, unsigned ctrl0, unsigned ctrl1)

@@ -12,7 +12,7 @@ void work_bursts(struct work *w)
             frame(w, flags, flags & EXTENDED ? 0x12345678 + n : (0x100 + n) & 0x7FF, n % 11, n);
         }
         for (unsigned i = 0; i < 8; i++)
-            spi_room(w, i % 2 ? 14 : 16, "\x48", 1);
+            spi_lent(w, i % 2 ? 14 : 16, "\x48", 1);
     }
 }
 
@@ -30,7 +30,7 @@ void work_registers(struct work *w)
     SPI(w, 0x14, 0x00);
     for (unsigned turn = 0; turn < 60; turn++) {
         for (size_t i = 0; i < sizeof polled; i++)
-            spi_room(w, 16, &polled[i], 1);
+            spi_lent(w, 16, &polled[i], 1);
         SPI(w, 0x1C, turn);        /* INTE */
         SPI(w, 0x1E, 3 * turn);    /* STATFE */
         SPI(w, 0x22, 5 * turn);    /* GPINE */
@@ -87,15 +87,15 @@ void work_filters(struct work *w)
 void work_refused_once(struct work *w, unsigned n)
 {
     static const uint8_t unknown[8] = {0x00, 0x4E, 0xF4, 0xF6, 0x13, 0x60, 0xFF, 0x86};
-    spi_room(w, 16, &unknown[n % 8], 1);
-    spi_room(w, 16, "", 0);
+    spi_lent(w, 16, &unknown[n % 8], 1);
+    spi_lent(w, 16, "", 0);
     SPI(w, 0xD2, 0x00);                                     /* a read with a byte too many */
     SPI(w, 0x14);                                           /* writes with bytes missing */
     SPI(w, 0x12, n, 0x24, 0x60, 0x02, 0xAA);
     SPI(w, 0x62, 0x24, 0x60, 0x00);
-    spi_room(w, 0, "\xE2", 1);
-    spi_room(w, 14, "\x42", 1);
-    spi_room(w, 13, "\x48", 1);
+    spi_lent(w, 0, "\xE2", 1);
+    spi_lent(w, 14, "\x42", 1);
+    spi_lent(w, 13, "\x48", 1);
     SPI(w, 0x74, 0xFF, 0xF8, 0x00, 0x00, 0xFF, 0x00);       /* not in normal mode */
     SPI(w, 0x18, 0x05);
     SPI(w, 0x48);

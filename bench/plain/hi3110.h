@@ -85,7 +85,7 @@ struct hi3110 {
 void hi3110_power_up(struct hi3110 *d);
 
 /* One SPI transfer. On HI3110_DONE the reply is at the front of `reply`; a refusal changes nothing. */
-int hi3110_transfer(struct hi3110 *d, const uint8_t *bytes, size_t count, uint8_t *reply, size_t room);
+int hi3110_transfer(struct hi3110 *d, const uint8_t *bytes, size_t count, uint8_t *reply, size_t lent);
 
 int hi3110_frame(struct hi3110 *d, const struct can_frame_event *f);
 int hi3110_event(struct hi3110 *d, unsigned kind, unsigned a, unsigned b);

@@ -38,9 +38,9 @@ static int write_message(struct hi3110 *d, const uint8_t *bytes, size_t count)
     return HI3110_DONE;
 }
 
-static int check_fifo_read(const struct hi3110 *d, size_t count, size_t room, size_t size)
+static int check_fifo_read(const struct hi3110 *d, size_t count, size_t lent, size_t size)
 {
-    int number = check_read(count, room, size);
+    int number = check_read(count, lent, size);
     if (number == HI3110_DONE && d->rx_count == 0)
         return HI3110_NOTHING_THERE;
     return number;
@@ -54,9 +54,9 @@ static const uint8_t *take_received(struct hi3110 *d)
     return m;
 }
 
-static int read_history(struct hi3110 *d, size_t count, uint8_t *reply, size_t room)
+static int read_history(struct hi3110 *d, size_t count, uint8_t *reply, size_t lent)
 {
-    int number = check_read(count, room, 3);
+    int number = check_read(count, lent, 3);
     if (number != HI3110_DONE)
         return number;
     if (d->history_count == 0)
@@ -67,7 +67,7 @@ static int read_history(struct hi3110 *d, size_t count, uint8_t *reply, size_t r
     return HI3110_DONE;
 }
 
-int hi3110_transfer(struct hi3110 *d, const uint8_t *bytes, size_t count, uint8_t *reply, size_t room)
+int hi3110_transfer(struct hi3110 *d, const uint8_t *bytes, size_t count, uint8_t *reply, size_t lent)
 {
     const uint8_t *m;
     int number;
@@ -99,22 +99,22 @@ int hi3110_transfer(struct hi3110 *d, const uint8_t *bytes, size_t count, uint8_
         return write_register(&d->tec, bytes, count);
 
     case READ_TEMPORARY_TIMED:
-        number = check_read(count, room, 15);
+        number = check_read(count, lent, 15);
         if (number == HI3110_DONE)
             memcpy(reply, d->temporary, 15);
         return number;
     case READ_TEMPORARY:
-        number = check_read(count, room, 13);
+        number = check_read(count, lent, 13);
         if (number == HI3110_DONE)
             memcpy(reply, d->temporary + 2, 13);
         return number;
     case READ_FIFO_TIMED:
-        number = check_fifo_read(d, count, room, 16);
+        number = check_fifo_read(d, count, lent, 16);
         if (number == HI3110_DONE)
             memcpy(reply, take_received(d), 16);
         return number;
     case READ_FIFO:
-        number = check_fifo_read(d, count, room, 14);
+        number = check_fifo_read(d, count, lent, 14);
         if (number == HI3110_DONE) {
             m = take_received(d);
             reply[0] = m[0];
@@ -122,7 +122,7 @@ int hi3110_transfer(struct hi3110 *d, const uint8_t *bytes, size_t count, uint8_
         }
         return number;
     case READ_FIFO_DATA_TIMED:
-        number = check_fifo_read(d, count, room, 11);
+        number = check_fifo_read(d, count, lent, 11);
         if (number == HI3110_DONE) {
             m = take_received(d);
             memcpy(reply, m, 3);
@@ -130,7 +130,7 @@ int hi3110_transfer(struct hi3110 *d, const uint8_t *bytes, size_t count, uint8_
         }
         return number;
     case READ_FIFO_DATA:
-        number = check_fifo_read(d, count, room, 9);
+        number = check_fifo_read(d, count, lent, 9);
         if (number == HI3110_DONE) {
             m = take_received(d);
             reply[0] = m[0];
@@ -173,46 +173,46 @@ int hi3110_transfer(struct hi3110 *d, const uint8_t *bytes, size_t count, uint8_
         return write_bank(d, bank_place(bytes[0] - 0x60), bytes, count);
     case 0xA2: case 0xA4: case 0xA6: case 0xA8: case 0xAA: case 0xAC: case 0xAE: case 0xB2: /* filters */
     case 0xB4: case 0xB6: case 0xB8: case 0xBA: case 0xBC: case 0xBE: case 0xC2: case 0xC4: /* masks */
-        return read_bank(d, bank_place(bytes[0] - 0xA0), count, reply, room);
+        return read_bank(d, bank_place(bytes[0] - 0xA0), count, reply, lent);
 
     case READ_CTRL0:
-        return read_register(d->ctrl0, count, reply, room);
+        return read_register(d->ctrl0, count, reply, lent);
     case READ_CTRL1:
-        return read_register(d->ctrl1, count, reply, room);
+        return read_register(d->ctrl1, count, reply, lent);
     case READ_BTR0:
-        return read_register(d->btr0, count, reply, room);
+        return read_register(d->btr0, count, reply, lent);
     case READ_BTR1:
-        return read_register(d->btr1, count, reply, room);
+        return read_register(d->btr1, count, reply, lent);
     case READ_MESSTAT:
-        return read_register(messtat(d), count, reply, room);
+        return read_register(messtat(d), count, reply, lent);
     case READ_ERR:
-        number = read_register(error_register(d), count, reply, room);
+        number = read_register(error_register(d), count, reply, lent);
         if (number == HI3110_DONE)
             d->err = 0;
         return number;
     case READ_INTF:
-        number = read_register(d->intf, count, reply, room);
+        number = read_register(d->intf, count, reply, lent);
         if (number == HI3110_DONE)
             d->intf = 0;
         return number;
     case READ_STATF:
-        return read_register(statf(d), count, reply, room);
+        return read_register(statf(d), count, reply, lent);
     case READ_INTE:
-        return read_register(d->inte, count, reply, room);
+        return read_register(d->inte, count, reply, lent);
     case READ_STATFE:
-        return read_register(d->statfe, count, reply, room);
+        return read_register(d->statfe, count, reply, lent);
     case READ_GPINE:
-        return read_register(d->gpine, count, reply, room);
+        return read_register(d->gpine, count, reply, lent);
     case READ_REC:
-        return read_register(d->rec, count, reply, room);
+        return read_register(d->rec, count, reply, lent);
     case READ_TEC:
-        return read_register(d->tec, count, reply, room);
+        return read_register(d->tec, count, reply, lent);
     case READ_HISTORY:
-        return read_history(d, count, reply, room);
+        return read_history(d, count, reply, lent);
     case READ_RECESSIVE_COUNT:
-        return read_register(d->recessive_groups, count, reply, room);
+        return read_register(d->recessive_groups, count, reply, lent);
     case READ_TIME_TAG:
-        number = check_read(count, room, 2);
+        number = check_read(count, lent, 2);
         if (number == HI3110_DONE)
             put16(reply, d->time_tag);
         return number;

@@ -4,16 +4,16 @@
 
 #include "internal.h"
 
-static int check_read(size_t count, size_t room, size_t size)
+static int check_read(size_t count, size_t lent, size_t size)
 {
     if (count != 1)
         return HI3110_BAD_LENGTH;
-    return room < size ? HI3110_SHORT_REPLY : HI3110_DONE;
+    return lent < size ? HI3110_SHORT_REPLY : HI3110_DONE;
 }
 
-static int read_register(uint8_t value, size_t count, uint8_t *reply, size_t room)
+static int read_register(uint8_t value, size_t count, uint8_t *reply, size_t lent)
 {
-    int number = check_read(count, room, 1);
+    int number = check_read(count, lent, 1);
     if (number == HI3110_DONE)
         reply[0] = value;
     return number;
@@ -60,9 +60,9 @@ static unsigned bank_place(unsigned offset)
     return offset / 16 * 7 + offset % 16 / 2 - 1;
 }
 
-static int read_bank(const struct hi3110 *d, unsigned place, size_t count, uint8_t *reply, size_t room)
+static int read_bank(const struct hi3110 *d, unsigned place, size_t count, uint8_t *reply, size_t lent)
 {
-    int number = check_read(count, room, 6);
+    int number = check_read(count, lent, 6);
     if (number == HI3110_DONE) {
         unsigned n = place % HI3110_PLACES;
         bool filter = place < HI3110_PLACES;

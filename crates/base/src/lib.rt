@@ -13,7 +13,7 @@ pub fn flag(b: bool) -> u8
     if b { 1 } else { 0 }
 }
 
-// A byte of what was sent; one that isn't there reads as zero.
+// A byte of what is lent; one that isn't there reads as zero.
 pub fn at(s: &[u8], i: usize) -> u8
     ensures { λ r. ⌜ r ≡ getD (now (s .entry)) i 0 ⌝ }
 {

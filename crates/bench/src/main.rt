@@ -1,5 +1,6 @@
-// The benchmark's program: a list of records in, run through the device as often as it says, the last results out.
-// What the records and the results mean, bench/work.h tells.
+// The benchmark's program: a list of records in, run through the device as often as it says, the last results out. A
+// record has 20 bytes and a result 17, and at most 3000 are run, so that 51000 bytes hold the results; what they mean,
+// bench/work.h tells.
 ghost use Prim.Native.Nat.{_≤_, _*_};
 ghost use lib.ListN.{length};
 

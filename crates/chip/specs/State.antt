@@ -1,4 +1,4 @@
--- The state after power-up, the modes, and what enables a transmission.
+-- The state after power-up, the modes, the control bits, and filters or masks as the match takes them.
 use mathlib.Core.Bool.{Bool, false, _||_}
 use mathlib.Core.List.{List, []}
 use Prim.Native.Nat.{ℕ, _/_}

@@ -58,6 +58,7 @@ pub struct Device {
     pub tx: Fifo,
     // The transmit buffer: a copy of the message that runs.
     pub buffer: Message,
+    // IDLE, FIRST_IN_FIFO or ALONE.
     pub sending: u8,
     pub history: Fifo,
     pub time: u16,
@@ -214,7 +215,7 @@ fn sending_in_range(d: Device) -> bool
     if sending == FIRST_IN_FIFO {
         1 <= d.tx.count
     } else {
-        sending <= 2
+        sending <= ALONE
     }
 }
 
@@ -224,7 +225,7 @@ fn acting_in_range(d: Device) -> bool
     let acting = d.acting;
     let named = mode_of(d.regs.ctrl0);
     if named == SLEEP {
-        acting <= 4
+        acting <= INITIALIZATION
     } else {
         acting == named
     }

@@ -44,6 +44,7 @@ pub fn dominant_bit(c: Counters) -> Counters
     Counters { rec, ..c }
 }
 
+// CAN 2.0B lets REC come down from 128 and above to 119 to 127; the house rules 119.
 pub fn good_frame(c: Counters) -> Counters
     ensures { λ r. ⌜ r ≡ goodFrame c ⌝ }
 {
@@ -65,6 +66,7 @@ pub fn transmit_error(c: Counters) -> Counters
     if busoff {
         c
     } else if 247 < tec {
+        // Eight more pass 255.
         Counters {
             rec: c.rec,
             tec: 255,

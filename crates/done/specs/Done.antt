@@ -16,10 +16,10 @@ use Rattle.chip.specs.declared.Registers.{Registers}
 use Rattle.chip.specs.Parts.{with-regs, with-ctrl1, with-btr0, with-btr1, with-inte, with-statfe, with-gpine, with-intf, with-errs}
 use Rattle.chip.specs.Parts.{with-counters, with-filters, with-masks, with-rx, with-tx, with-history, with-time}
 use Rattle.commands.specs.Verbs.{readMessageWithTime, readMessage, readDataWithTime, readData, readErr, readIntf, readHistory}
-use Rattle.commands.specs.Verbs.{abortTransmission, clearTransmit, masterReset, resetTime, clearReceive, writeMessage, writeCtrl0 as writesCtrl0}
+use Rattle.commands.specs.Verbs.{abortTransmission, clearTransmit, masterReset, resetTime, clearReceive, writeMessage, writeCtrl0}
 use Rattle.commands.specs.Verbs.{writeCtrl1, writeBtr0, writeBtr1, writeInte, writeStatfe, writeGpine, writeRec, writeTec}
 use Rattle.commands.specs.Verbs.{writeFilter, writeMask}
-use Rattle.modes.specs.Modes.{writeCtrl0}
+use Rattle.modes.specs.Modes.{ctrl0Written}
 use Rattle.flags.specs.Reset.{reset}
 use Rattle.transmit.specs.Transmit.{aborted, cleared}
 
@@ -99,7 +99,7 @@ deeds d k bytes =
     (resetTime, timeReset d) ∷
     (clearReceive, receiveCleared d) ∷
     (writeMessage, messageWritten d bytes) ∷
-    (writesCtrl0, writeCtrl0 d (byte bytes 2)) ∷
+    (writeCtrl0, ctrl0Written d (byte bytes 2)) ∷
     (writeRec, recWritten d (byte bytes 2)) ∷
     (writeTec, tecWritten d (byte bytes 2)) ∷
     (writeFilter, filterWritten d k (pattern bytes)) ∷

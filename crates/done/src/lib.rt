@@ -162,7 +162,7 @@ pub fn does(d: Device, v: u8, k: u8, bytes: &[u8]) -> Device
         verb::RESET_TIME => time_reset(d),
         verb::CLEAR_RECEIVE => receive_cleared(d),
         verb::WRITE_MESSAGE => message_written(d, bytes),
-        verb::WRITE_CTRL0 => modes::write_ctrl0(d, value),
+        verb::WRITE_CTRL0 => modes::ctrl0_written(d, value),
         verb::WRITE_REC => rec_written(d, value),
         verb::WRITE_TEC => tec_written(d, value),
         verb::WRITE_FILTER => filter_written(d, k, pattern(bytes)),

@@ -27,7 +27,7 @@ fn expected(out: &mut [u8], at: usize, e: Expected) -> usize {
             b"spi, frame, rxerr, txerr, dominant, begin, done, lost, recessive, quiet, activity, mr, ticks, txen or pins",
         ),
         Expected::Byte => text(out, at, b"a byte as two hex digits, as 0A"),
-        Expected::Room => text(out, at, b"a reply buffer of 0 to 16 bytes, as spi/14"),
+        Expected::Lent => text(out, at, b"a reply buffer of 0 to 16 bytes, as spi/14"),
         Expected::Identifier => text(out, at, b"an identifier in hex, as 123"),
         Expected::StdOrExt => text(out, at, b"std or ext"),
         Expected::DataOrRemote => text(out, at, b"data or remote"),

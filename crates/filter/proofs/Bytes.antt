@@ -16,7 +16,7 @@ use lib.Pow.{shr-lt}
 use Rattle.base.specs.Bit.{bit}
 use Rattle.base.specs.Pick.{pick}
 use Rattle.base.proofs.Bits.{bit-zero, bit-suc}
-use Rattle.filter.specs.Match.{agree, byteOf, placeOf, uncounted, countedOf, countedByte}
+use Rattle.filter.specs.Match.{agree, bitFromTop, bitAtPlace, uncounted, countedOf, countedByte}
 use Rattle.filter.proofs.Agree.{agree-alike, agree-more}
 
 -- ---- one digit
@@ -84,8 +84,8 @@ whole-agrees (suc n) x f m h =
 -- ---- six bytes of eight places
 
 module _ (j : ℕ) where
-  place : (bytes : List ℕ) (k : ℕ) → k < 8 → placeOf bytes (8 * j + k) ≡ byteOf (getD bytes j 0) k
-  place bytes k l = ap₂ (λ (b i : ℕ). byteOf (getD bytes b 0) i) byte inside
+  place : (bytes : List ℕ) (k : ℕ) → k < 8 → bitAtPlace bytes (8 * j + k) ≡ bitFromTop (getD bytes j 0) k
+  place bytes k l = ap₂ (λ (b i : ℕ). bitFromTop (getD bytes b 0) i) byte inside
     where
       byte : (8 * j + k) / 8 ≡ j
       byte = omega arith
@@ -94,7 +94,7 @@ module _ (j : ℕ) where
       inside = omega arith
 
   -- all bits of x / 2 * 2 but the last are x's
-  above : (x k : ℕ) → k < 7 → byteOf (x / 2 * 2) k ≡ byteOf x k
+  above : (x k : ℕ) → k < 7 → bitFromTop (x / 2 * 2) k ≡ bitFromTop x k
   above x k l =
       rw place-of
       (bit-suc (6 - k) (x / 2 * 2) ∙ ap (bit (6 - k)) (mul-div-cancel (x / 2) (zero-lt-suc 1)) ∙ sym (bit-suc (6 - k) x))
@@ -106,7 +106,7 @@ module _ (j : ℕ) where
     abbrev x : ℕ
     x = getD mask j 0
 
-    in-fourth : (last : Bool) → eqb k 7 ≡ last → j ≡ 3 → countedOf mask (8 * j + k) ≡ byteOf (x / 2 * 2) k
+    in-fourth : (last : Bool) → eqb k 7 ≡ last → j ≡ 3 → countedOf mask (8 * j + k) ≡ bitFromTop (x / 2 * 2) k
     in-fourth true e h =
         let seventh : k ≡ 7 = eqb-true k 7 e in
         rw (eq-eqb (8 * j + k) uncounted (omega arith), seventh) (sym (bit-zero (x / 2 * 2) ∙ omega arith))
@@ -114,20 +114,20 @@ module _ (j : ℕ) where
         let other : k ≡ 7 → ⊥ = eqb-false k 7 e in
         rw (ne-eqb (8 * j + k) uncounted (λ q. omega arith)) (place mask k l ∙ sym (above x k (omega arith)))
 
-    counted-place′ : (fourth : Bool) → eqb j 3 ≡ fourth → countedOf mask (8 * j + k) ≡ byteOf (pick fourth (x / 2 * 2) x) k
+    counted-place′ : (fourth : Bool) → eqb j 3 ≡ fourth → countedOf mask (8 * j + k) ≡ bitFromTop (pick fourth (x / 2 * 2) x) k
     counted-place′ true e = in-fourth (eqb k 7) refl (eqb-true j 3 e)
     counted-place′ false e =
         let other : j ≡ 3 → ⊥ = eqb-false j 3 e in
         rw (ne-eqb (8 * j + k) uncounted (λ q. omega arith)) (place mask k l)
 
-    counted-place : countedOf mask (8 * j + k) ≡ byteOf (countedByte j x) k
+    counted-place : countedOf mask (8 * j + k) ≡ bitFromTop (countedByte j x) k
     counted-place = counted-place′ (eqb j 3) refl
 
   -- byte j's eight places, after those of the bytes before it
-  pub byte-more : (v f m : List ℕ) → agree (8 * j + 8) (placeOf v) (placeOf f) (countedOf m)
-      ≡ (agree (8 * j) (placeOf v) (placeOf f) (countedOf m)
-      && agree 8 (byteOf (getD v j 0)) (byteOf (getD f j 0)) (byteOf (countedByte j (getD m j 0))))
+  pub byte-more : (v f m : List ℕ) → agree (8 * j + 8) (bitAtPlace v) (bitAtPlace f) (countedOf m)
+      ≡ (agree (8 * j) (bitAtPlace v) (bitAtPlace f) (countedOf m)
+      && agree 8 (bitFromTop (getD v j 0)) (bitFromTop (getD f j 0)) (bitFromTop (countedByte j (getD m j 0))))
   byte-more v f m =
-      agree-more 8 (8 * j) (placeOf v) (placeOf f) (countedOf m)
-      ∙ ap (λ (b : Bool). agree (8 * j) (placeOf v) (placeOf f) (countedOf m) && b)
+      agree-more 8 (8 * j) (bitAtPlace v) (bitAtPlace f) (countedOf m)
+      ∙ ap (λ (b : Bool). agree (8 * j) (bitAtPlace v) (bitAtPlace f) (countedOf m) && b)
       (agree-alike 8 _ _ _ _ _ _ (λ k l. record { frame = place v k l; filter = place f k l; mask = counted-place m k l }))

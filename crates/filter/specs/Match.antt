@@ -9,19 +9,20 @@ use lib.ListN.{getD}
 use Rattle.base.specs.Bit.{bit}
 use Rattle.base.specs.Pick.{pick}
 
--- a byte's eight places, highest bit first
-abbrev pub byteOf : ℕ → ℕ → ℕ
-byteOf x k = bit (7 - k) x
+-- the bit at each of a byte's eight places, highest first, and at each of the 48
+abbrev pub bitFromTop : ℕ → ℕ → ℕ
+bitFromTop x k = bit (7 - k) x
 
-abbrev pub placeOf : List ℕ → ℕ → ℕ
-placeOf bytes k = byteOf (getD bytes (k / 8) 0) (k % 8)
+abbrev pub bitAtPlace : List ℕ → ℕ → ℕ
+bitAtPlace bytes k = bitFromTop (getD bytes (k / 8) 0) (k % 8)
 
--- "4b says which mask bits count": all but bit 0 of byte 4, which it doesn't name. 47 places count.
+-- "4b says which mask bits count": all but bit 0 of byte 4, place 31, which it doesn't name. 47 places
+-- count.
 abbrev pub uncounted : ℕ
 uncounted = 31
 
 abbrev pub countedOf : List ℕ → ℕ → ℕ
-countedOf mask k = pick (eqb k uncounted) 0 (placeOf mask k)
+countedOf mask k = pick (eqb k uncounted) 0 (bitAtPlace mask k)
 
 -- "A filter matches when all counted bits agree": at each of the first n places the mask has 0, or frame and filter
 -- are alike. It is said of any bits and any number of them, so that another device, or an engine that walks, can cite
@@ -31,7 +32,7 @@ agree zero frame filter mask = true
 agree (suc n) frame filter mask = agree n frame filter mask && (eqb (mask n) 0 || eqb (frame n) (filter n))
 
 unfoldable pub matches : List ℕ → List ℕ → List ℕ → Bool
-matches vector filter mask = agree 48 (placeOf vector) (placeOf filter) (countedOf mask)
+matches vector filter mask = agree 48 (bitAtPlace vector) (bitAtPlace filter) (countedOf mask)
 
 -- ---- for the code's own step
 

@@ -1,7 +1,7 @@
 // The acceptance filters: eight filters and eight masks of six bytes each, against the six bytes that a frame is
 // compared by. It knows nothing of frames or of the device.
 ghost use mathlib.Core.Path.{_≡_};
-ghost use Rattle.filter.specs.Match.{agree, byteOf, countedByte, matches};
+ghost use Rattle.filter.specs.Match.{agree, bitFromTop, countedByte, matches};
 ghost use Rattle.filter.specs.Lowest.{lowest, filhit};
 
 // The lowest filter that matches, if one does.
@@ -12,7 +12,7 @@ pub enum Hit {
 
 // No bit differs that the mask has.
 fn byte_agrees(frame: u8, filter: u8, mask: u8) -> bool
-    ensures { λ r. ⌜ r ≡ agree 8 (byteOf frame) (byteOf filter) (byteOf mask) ⌝ }
+    ensures { λ r. ⌜ r ≡ agree 8 (bitFromTop frame) (bitFromTop filter) (bitFromTop mask) ⌝ }
 {
     (frame ^ filter) & mask == 0
 }

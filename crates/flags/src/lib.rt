@@ -1,4 +1,4 @@
-// What every step of the device leans on: the interrupt flags that rise, an error noted, and the master reset.
+// What several steps of the device share: the interrupt flags that rise, an error noted, and the master reset.
 ghost use mathlib.Core.Path.{_≡_};
 ghost use Rattle.flags.specs.Flags.{raised, busError};
 ghost use Rattle.flags.specs.Reset.{reset};

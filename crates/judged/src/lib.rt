@@ -86,7 +86,7 @@ pub fn reason(d: Device, h: Header, acknowledged: bool, payload: [u8; 8]) -> Arr
 {
     let deaf = takes_no_frames(d.acting);
     let off = d.counters.busoff;
-    let alone = unacknowledged(d.acting, acknowledged);
+    let unheard = unacknowledged(d.acting, acknowledged);
     let what = receive::filters_and_room(d, h, payload);
     if deaf {
         return Arrival::A1;
@@ -94,7 +94,7 @@ pub fn reason(d: Device, h: Header, acknowledged: bool, payload: [u8; 8]) -> Arr
     if off {
         return Arrival::A2;
     }
-    if alone {
+    if unheard {
         return Arrival::A3;
     }
     what

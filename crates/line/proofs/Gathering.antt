@@ -15,7 +15,7 @@ use Rattle.line.specs.declared.data.Data.{Data}
 use Rattle.line.specs.declared.words.Span.{Span}
 use Rattle.line.specs.Words.{wordsOf, Found}
 use Rattle.line.specs.Numbers.{valueOf, isByte}
-use Rattle.line.specs.Data.{areBytes, firstOther, filled, head, noData, dataOf, keepOf}
+use Rattle.line.specs.Data.{areBytes, firstOther, padded, head, noData, gatherOf, keepOf}
 
 -- what a loop over the words makes of the data so far
 abbrev pub gathered : Data → List (List ℕ) → Data
@@ -23,7 +23,7 @@ gathered d [] = d
 gathered d (w ∷ ws) = pick (isByte w) (gathered (keepOf d (valueOf 16 w)) ws) (noData w)
 
 abbrev pub full : List ℕ → Data
-full p = record { good = true; bytes = filled p; count = length p }
+full p = record { good = true; bytes = padded p; count = length p }
 
 data-path : (b b′ : List ℕ) (n n′ : ℕ) → b ≡ b′ → n ≡ n′
     → _≡_ {A = Data} (record { good = true; bytes = b; count = n }) (record { good = true; bytes = b′; count = n′ })
@@ -40,7 +40,7 @@ module _ (p : List ℕ) (v : ℕ) where
   unfolding keepOf
   keep-more h =
       rw (lt-ltb (length p) 16 h)
-      (data-path (set (p ++ replicate (16 - length p) 0) (length p) v) (filled (p ++ v ∷ [])) (length p + 1) (length (p ++ v ∷ []))
+      (data-path (set (p ++ replicate (16 - length p) 0) (length p) v) (padded (p ++ v ∷ [])) (length p + 1) (length (p ++ v ∷ []))
       (rw (room, one-more, rest-room) (set-append-seam p 0 (replicate (15 - length p) 0) v ∙ sym (append-assoc p (v ∷ []) (replicate (15 - length p) 0))))
       (sym one-more))
     where
@@ -83,8 +83,8 @@ gathered-done (w ∷ ws) p h = go (isByte w) (ltb (length p) 16) refl (gathered-
         ∙ more p h
         ∙ ap (λ (l : List ℕ). pick (areBytes ws) (full l) (noData (firstOther ws))) (cut (ltb-false (length p) 16 e))
 
-pub gathered-all : (ws : List (List ℕ)) → gathered (full []) ws ≡ dataOf ws
-unfolding dataOf
+pub gathered-all : (ws : List (List ℕ)) → gathered (full []) ws ≡ gatherOf ws
+unfolding gatherOf
 gathered-all ws = gathered-done ws [] (omega arith)
 
 -- ---- a turn of the loop

@@ -17,15 +17,15 @@ use Rattle.line.specs.declared.words.Choice.the-variants.{Yes, No, Neith
 use Rattle.line.specs.declared.errors.Kind.{Kind}
 use Rattle.line.specs.declared.errors.Kind.the-variants.{Is, Other}
 use Rattle.line.specs.Words.{wordsOf, first, rest, choiceOf, Found}
-use Rattle.line.specs.Data.{areBytes, firstOther, kept, noData, dataOf}
+use Rattle.line.specs.Data.{areBytes, firstOther, kept, noData, gatherOf}
 use Rattle.line.specs.Request.{need, unreadable, withData, carrying, chosen, kindOf, onKind}
 use Rattle.line.proofs.Gathering.{full}
 
 -- ---- data that were gathered
 
-module _ (asked : ℕ → Asked) (ws : List (List ℕ)) (d : Data) (is : d ≡ dataOf ws) where
+module _ (asked : ℕ → Asked) (ws : List (List ℕ)) (d : Data) (is : d ≡ gatherOf ws) where
   pub data-carried : carrying (asked (d .count)) d ≡ need (areBytes ws) Byte (firstOther ws) (withData (asked (length (kept ws))) (kept ws))
-  unfolding dataOf carrying
+  unfolding gatherOf carrying
   data-carried = go (areBytes ws) is
     where
       go : (t : Bool) → d ≡ pick t (full (kept ws)) (noData (firstOther ws))

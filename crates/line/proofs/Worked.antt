@@ -6,7 +6,7 @@ use Prim.Native.String.{String}
 use Rattle.events.specs.declared.ErrorKind.the-variants.{Crc, Form}
 use Rattle.events.specs.declared.Event.the-variants.{GoodFrame, ReceiveError, TransmitError, ElevenRecessive, Ticks, TxenPin}
 use Rattle.line.specs.declared.Asked.the-variants.{Nothing, Transfer, Happens, Pins, Unreadable}
-use Rattle.line.specs.declared.Expected.the-variants.{Request, Byte, Room, Identifier, StdOrExt, AckOrNoack, CountedOrExempt, EndOfLine}
+use Rattle.line.specs.declared.Expected.the-variants.{Request, Byte, Lent, Identifier, StdOrExt, AckOrNoack, CountedOrExempt, EndOfLine}
 use Rattle.line.specs.Numbers.{digitOf, isNumber, valueOf, isByte}
 use Rattle.line.specs.Words.{choiceOf}
 use Rattle.line.specs.Text.{ascii}
@@ -78,7 +78,7 @@ pub worked : map (λ (t : String). readLine (ascii t)) lines
     plain Nothing ∷
     unreadable Request (ascii "Pins") ∷
     unreadable Byte (ascii "0x") ∷
-    unreadable Room (ascii "spi/17") ∷
+    unreadable Lent (ascii "spi/17") ∷
     plain (Unreadable Identifier) ∷
     unreadable StdOrExt (ascii "standard") ∷
     record { asked = Unreadable StdOrExt; bytes = ascii "standardidentifi"; count = 18 } ∷

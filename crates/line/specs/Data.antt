@@ -22,12 +22,12 @@ firstOther (w ∷ ws) = pick (isByte w) (firstOther ws) w
 abbrev pub kept : List (List ℕ) → List ℕ
 kept ws = take 16 (map (valueOf 16) ws)
 
-abbrev pub filled : List ℕ → List ℕ
-filled bytes = bytes ++ replicate (16 - length bytes) 0
+abbrev pub padded : List ℕ → List ℕ
+padded bytes = bytes ++ replicate (16 - length bytes) 0
 
 -- as much of a word as a line keeps
 abbrev pub head : List ℕ → List ℕ
-head w = filled (take 16 w)
+head w = padded (take 16 w)
 
 -- ---- for the reader's own steps
 
@@ -35,8 +35,8 @@ head w = filled (take 16 w)
 abbrev pub noData : List ℕ → Data
 noData w = record { good = false; bytes = head w; count = length w }
 
-unfoldable pub dataOf : List (List ℕ) → Data
-dataOf ws = pick (areBytes ws) (record { good = true; bytes = filled (kept ws); count = length (kept ws) }) (noData (firstOther ws))
+unfoldable pub gatherOf : List (List ℕ) → Data
+gatherOf ws = pick (areBytes ws) (record { good = true; bytes = padded (kept ws); count = length (kept ws) }) (noData (firstOther ws))
 
 -- one byte more, where there is room
 unfoldable pub keepOf : Data → ℕ → Data

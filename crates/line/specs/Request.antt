@@ -13,7 +13,7 @@ use Rattle.events.specs.declared.Event.the-variants.{GoodFrame, ReceiveError, D
 use Rattle.events.specs.declared.Event.the-variants.{ArbitrationLost, ElevenRecessive, BusQuiet, BusActivity}
 use Rattle.events.specs.declared.Event.the-variants.{Ticks, TxenPin, MrPin}
 use Rattle.line.specs.declared.Expected.{Expected}
-use Rattle.line.specs.declared.Expected.the-variants.{Request, Byte, Room, Identifier, StdOrExt, DataOrRemote}
+use Rattle.line.specs.declared.Expected.the-variants.{Request, Byte, Lent, Identifier, StdOrExt, DataOrRemote}
 use Rattle.line.specs.declared.Expected.the-variants.{LengthCode, AckOrNoack, Error, CountedOrExempt, Count}
 use Rattle.line.specs.declared.Expected.the-variants.{ZeroOrOne, EndOfLine}
 use Rattle.line.specs.declared.Asked.{Asked}
@@ -28,7 +28,7 @@ use Rattle.line.specs.declared.requests.Alone.{Alone}
 use Rattle.line.specs.declared.requests.Alone.the-variants.{Asks, Unknown}
 use Rattle.line.specs.Words.{uncommented, wordsOf, first, rest, same, choiceOf, amongWords}
 use Rattle.line.specs.Numbers.{isNumber, valueOf, most}
-use Rattle.line.specs.Data.{areBytes, firstOther, kept, filled, head}
+use Rattle.line.specs.Data.{areBytes, firstOther, kept, padded, head}
 use Rattle.line.specs.Text.{ascii}
 
 -- ---- answers
@@ -52,7 +52,7 @@ ending a [] = plain a
 ending a (w ∷ ws) = unreadable EndOfLine w
 
 abbrev pub withData : Asked → List ℕ → Line
-withData a bytes = record { asked = a; bytes = filled bytes; count = length bytes }
+withData a bytes = record { asked = a; bytes = padded bytes; count = length bytes }
 
 -- the same for the reader's own steps: a request with data that have been judged
 unfoldable pub carrying : Asked → Data → Line
@@ -70,7 +70,7 @@ transferOf lent ws = need (areBytes ws) Byte (firstOther ws) (withData (Transfer
 
 unfoldable pub sizedOf : List ℕ → List (List ℕ) → Line
 sizedOf w ws =
-    need (isNumber 10 (drop 4 w) && leb (valueOf 10 (drop 4 w)) 16) Room w
+    need (isNumber 10 (drop 4 w) && leb (valueOf 10 (drop 4 w)) 16) Lent w
     (transferOf (valueOf 10 (drop 4 w)) ws)
 
 -- ---- `frame ID std|ext data|remote CODE ack|noack B B …`, from the last word to the first

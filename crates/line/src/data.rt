@@ -3,7 +3,7 @@ ghost use mathlib.Core.Path.{_≡_};
 ghost use Prim.Native.Nat.{_≤_, min};
 ghost use lib.ListN.{length, drop};
 ghost use Rattle.line.specs.Words.{wordsOf};
-ghost use Rattle.line.specs.Data.{dataOf, keepOf, noData, head};
+ghost use Rattle.line.specs.Data.{gatherOf, keepOf, noData, head};
 use crate::numbers::byte;
 use crate::numbers::is_byte;
 use crate::words::word;
@@ -63,7 +63,7 @@ fn no_data(word: &[u8]) -> Data
 // The bytes of every word from `at` on.
 pub(crate) fn gather(s: &[u8], at: usize) -> Data
     requires { ⌜ at ≤ length (now s) ⌝ }
-    ensures { λ r. ⌜ r ≡ dataOf (wordsOf (drop at (now (s .entry)))) ⌝ }
+    ensures { λ r. ⌜ r ≡ gatherOf (wordsOf (drop at (now (s .entry)))) ⌝ }
 {
     let mut d = Data {
         good: true,

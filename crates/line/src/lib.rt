@@ -17,7 +17,7 @@ ghost use Rattle.line.specs.Request.{readLine};
 pub enum Expected {
     Request,
     Byte,
-    Room,
+    Lent,
     Identifier,
     StdOrExt,
     DataOrRemote,
@@ -54,6 +54,6 @@ pub struct Line {
 pub fn read_line(s: &[u8]) -> Line
     ensures { λ r. ⌜ r ≡ readLine (now (s .entry)) ⌝ }
 {
-    let n = words::comment(s);
+    let n = words::before_comment(s);
     requests::request(&s[..n])
 }

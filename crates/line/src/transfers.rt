@@ -43,9 +43,9 @@ pub(crate) fn sized(word: &[u8], s: &[u8], at: usize) -> Line
         if n <= 16 {
             transfer(n as u8, s, at)
         } else {
-            unreadable(Expected::Room, word)
+            unreadable(Expected::Lent, word)
         }
     } else {
-        unreadable(Expected::Room, word)
+        unreadable(Expected::Lent, word)
     }
 }

@@ -24,7 +24,7 @@ fn is_blank(b: u8) -> bool
 }
 
 // How many bytes stand before the first `#`.
-pub(crate) fn comment(s: &[u8]) -> usize
+pub(crate) fn before_comment(s: &[u8]) -> usize
     ensures { λ r. ⌜ r ≡ beforeComment (now (s .entry)) ⌝ }
 {
     let mut i: usize = 0;

@@ -23,8 +23,8 @@ modeChanged d mode = raised (with-acting d mode) mchg
 -- it acts at once and ends a running transmission as an abort does, TXEN and TX1M kept; if not, no transmission is
 -- touched". A sleep is only waited for; "A sleep write while asleep leaves the mode as it is; the byte's other bits
 -- act."
-unfoldable pub writeCtrl0 : Device → ℕ → Device
-writeCtrl0 d v =
+unfoldable pub ctrl0Written : Device → ℕ → Device
+ctrl0Written d v =
     pick (resetBit v) (put-ctrl0 (reset d) 0x88)
     (pick (eqb (modeOf v) sleep) (put-ctrl0 d v)
     (pick (eqb (modeOf v) (d .acting)) (put-ctrl0 d v)

@@ -1,6 +1,6 @@
 // The modes: how one comes to act.
 ghost use mathlib.Core.Path.{_≡_};
-ghost use Rattle.modes.specs.Modes.{modeChanged, writeCtrl0, canSleep, busQuiet, busActivity};
+ghost use Rattle.modes.specs.Modes.{modeChanged, ctrl0Written, canSleep, busQuiet, busActivity};
 use chip::Device;
 use chip::IDLE;
 use chip::MONITOR;
@@ -16,13 +16,14 @@ fn mode_changed(d: Device, mode: u8) -> Device
 }
 
 // The write of CTRL0, 0x14.
-pub fn write_ctrl0(d: Device, value: u8) -> Device
-    ensures { λ r. ⌜ r ≡ writeCtrl0 d value ⌝ }
+pub fn ctrl0_written(d: Device, value: u8) -> Device
+    ensures { λ r. ⌜ r ≡ ctrl0Written d value ⌝ }
 {
     let acting = d.acting;
     let named = chip::mode_of(value);
     if chip::reset_bit(value) {
         let mut e = flags::reset(d);
+        // Initialization mode, and RESET, which stays until the host clears it.
         e.regs.ctrl0 = 0x88;
         return e;
     }
@@ -64,6 +65,7 @@ pub fn bus_activity(d: Device) -> Device
 {
     let ctrl0 = d.regs.ctrl0;
     if (d.acting == SLEEP) & chip::wakeup(d) {
+        // MODE is 010 and the lower bits stay.
         let woken = ctrl0 % 32 + 64;
         let mut e = d;
         e.regs.ctrl0 = woken;

@@ -104,8 +104,8 @@ module _ (M : Type 1) where
   transmit·transmitted = result transmit.transmitted.clauses (λ _. Transmit.transmitted) refl
 
   -- ---- modes
-  pub modes·write-ctrl0 : OneResult M modes.write_ctrl0.ended modes.write_ctrl0.spec
-  modes·write-ctrl0 = result modes.write_ctrl0.clauses (λ _. Modes.writeCtrl0) refl
+  pub modes·ctrl0-written : OneResult M modes.ctrl0_written.ended modes.ctrl0_written.spec
+  modes·ctrl0-written = result modes.ctrl0_written.clauses (λ _. Modes.ctrl0Written) refl
 
   pub modes·bus-quiet : OneResult M modes.bus_quiet.ended modes.bus_quiet.spec
   modes·bus-quiet = result modes.bus_quiet.clauses (λ _. Modes.busQuiet) refl

@@ -28,9 +28,9 @@ use Rattle.promise.specs.Promises.{EachAnswerIsDue, SettingsAreThoseWrit
 use Rattle.promise.specs.Promises.{IntfIsTheFlagsRaised, PinsShowTheRecords, NoFrameIsLost, FieldsStandAsTheyArrived, OwnMessagesAreThoseWritten}
 use Rattle.promise.specs.Promises.{TheAnswersKeepTheRecords, AnyDeviceGoesOnSo}
 use Rattle.promise.specs.Sequence.{Input, spi, wire, Given, Step, shipped as step, number, values, done, run, conversation}
-use Rattle.promise.specs.Commands.{lengthsOf, rightLength}
+use Rattle.promise.specs.Commands.{lengthsOf, transferFits}
 use Rattle.promise.specs.Own.{messageFits}
-use Rattle.promise.specs.Numbers.{situation, row as rowSays, numberDue}
+use Rattle.promise.specs.Numbers.{situation, applies, numberDue}
 use Rattle.promise.specs.Due.{Due, situationOf}
 use Rattle.promise.specs.Held.{Pinned, Holds}
 use Rattle.promise.specs.After.{recorded}
@@ -72,18 +72,18 @@ module _ (d : Device) (r : Records) (range : InRange d) (h : Kept d r) where
     refused-agrees n some is = (rw some h, rw (← is, some))
 
     module _ (row : Row) (at : lookup rows (byte bytes 1) ≡ At row) (is : 0 ≡ numberDue (situationOf r) a-transfer) where
-      -- no row of 01's table says so
-      unsaid : (n : ℕ) → 1 ≤ n → n < 9 → rowSays (situation d) a-transfer n ≡ false
+      -- no number of 01's table applies
+      unsaid : (n : ℕ) → 1 ≤ n → n < 9 → applies (situation d) a-transfer n ≡ false
       unfolding numberDue
-      unsaid n = lowest-none (rowSays (situation d) a-transfer) 8 1 n (omega arith) (ap (λ s. numberDue s a-transfer) (situation-same d r range h) ∙ sym is)
+      unsaid n = lowest-none (applies (situation d) a-transfer) 8 1 n (omega arith) (ap (λ s. numberDue s a-transfer) (situation-same d r range h) ∙ sym is)
 
       some : eqb (length bytes) 0 ≡ false
       some = or-left (eqb (length bytes) 0) _ (unsaid 3 (omega arith) (omega arith))
 
       fits-its-length : pick (eqb (byte bytes 1) 0x12) (messageFits (drop 1 bytes)) true ≡ true
-      unfolding rightLength
+      unfolding transferFits
       fits-its-length =
-          let right : rightLength bytes ≡ true = not-false (rightLength bytes) (or-right (eqb (length bytes) 0) (not (rightLength bytes)) (unsaid 3 (omega arith) (omega arith))) in
+          let right : transferFits bytes ≡ true = not-false (transferFits bytes) (or-right (eqb (length bytes) 0) (not (transferFits bytes)) (unsaid 3 (omega arith) (omega arith))) in
           and-right (leb (length bytes) (lengthsOf (byte bytes 1) .most + 1)) _ (and-right (leb (lengthsOf (byte bytes 1) .least + 1) (length bytes)) _ right)
 
       finds-room : findsFull (d .tx .count) (row .verb) ≡ false

@@ -33,9 +33,9 @@ use Rattle.refused.specs.Refused.{refusal, rowJudged, verdict, lengthFits}
 use Rattle.host.specs.Transfer.{transfer, outcome as transferred}
 use Rattle.promise.specs.Promises.{EveryInputIsAnswered, TheFirstNumberIsGiven, EachNumberExactly, ARefusalChangesNothing}
 use Rattle.promise.specs.Sequence.{Input, spi, wire, shipped as step, number}
-use Rattle.promise.specs.Commands.{rightLength}
-use Rattle.promise.specs.Ranges.{inRange}
-use Rattle.promise.specs.Numbers.{situation, row, cannotBe, numberDue, refuses, Fits, numberGiven, Untouched}
+use Rattle.promise.specs.Commands.{transferFits}
+use Rattle.promise.specs.Ranges.{deviceInRange}
+use Rattle.promise.specs.Numbers.{situation, applies, cannotBe, numberDue, refuses, Fits, numberGiven, Untouched}
 use Rattle.promise.proofs.Ranges.{proper-same}
 use Rattle.promise.proofs.Rows.{asked-same, no-command}
 use Rattle.promise.proofs.Steps.{by-transfer, by-event}
@@ -58,13 +58,13 @@ number-kept true n r e = sym (eqb-true n 0 e)
 number-kept false n r e = refl
 
 module _ (d : Device) (bytes buffer : List ℕ) where
-  length-same : (r : Row) → lookup rows (byte bytes 1) ≡ At r → lengthFits r bytes ≡ rightLength bytes
-  unfolding lengthFits rightLength
+  length-same : (r : Row) → lookup rows (byte bytes 1) ≡ At r → lengthFits r bytes ≡ transferFits bytes
+  unfolding lengthFits transferFits
   length-same r at =
       let same = asked-same d (byte bytes 1) r at in
       rw (ap (λ x. x .1) same, ap (λ x. x .2) same, fits-same (drop 1 bytes))
 
-  refusal-same : (r : Row) → lookup rows (byte bytes 1) ≡ At r → eqb (length bytes) 0 ≡ false → inRange d ≡ true
+  refusal-same : (r : Row) → lookup rows (byte bytes 1) ≡ At r → eqb (length bytes) 0 ≡ false → deviceInRange d ≡ true
       → refusal d r bytes (length buffer) ≡ numberDue (situation d) (spi bytes buffer)
   unfolding refusal numberDue
   refusal-same r at some fits =
@@ -72,7 +72,7 @@ module _ (d : Device) (bytes buffer : List ℕ) where
       rw (ap (λ x. x .0) same, ap (λ x. x .1) same, ap (λ x. x .3) same, ap (λ x. x .4) same, ap (λ x. x .5) same, length-same r at, fits, some)
 
   -- by whether the state is in range, the transfer empty, and by the row found
-  judged-number : (p q : Bool) (f : Found) → inRange d ≡ p → eqb (length bytes) 0 ≡ q → lookup rows (byte bytes 1) ≡ f
+  judged-number : (p q : Bool) (f : Found) → deviceInRange d ≡ p → eqb (length bytes) 0 ≡ q → lookup rows (byte bytes 1) ≡ f
       → verdictNumber (pick p (pick q (RefusedTransfer 3) (rowJudged d f bytes (length buffer))) (RefusedTransfer 1)) ≡ numberDue (situation d) (spi bytes buffer)
   unfolding rowJudged numberDue
   judged-number false q f fits some at = rw fits
@@ -181,7 +181,7 @@ fits d (wire e payload) =
 
 below : (d : Device) (i : Input) → numberGiven step d i ≤ 8
 unfolding numberDue
-below d i = rw (first d i) (lowest-le (row (situation d) i) 8 1 8 (omega arith))
+below d i = rw (first d i) (lowest-le (applies (situation d) i) 8 1 8 (omega arith))
 
 pub within : EveryInputIsAnswered
 within d i = (below d i, fits d i)
@@ -189,8 +189,8 @@ within d i = (below d i, fits d i)
 pub exactly : EachNumberExactly
 unfolding numberDue
 exactly d i n above below = (
-  (λ is. lowest-first (row (situation d) i) 8 1 n above (sym (first d i) ∙ is)),
-  (λ says. first d i ∙ first-lowest (row (situation d) i) 8 1 n above (omega arith) says),
+  (λ is. lowest-first (applies (situation d) i) 8 1 n above (sym (first d i) ∙ is)),
+  (λ says. first d i ∙ first-lowest (applies (situation d) i) 8 1 n above (omega arith) says),
 )
 
 pub refused : ARefusalChangesNothing

@@ -27,7 +27,7 @@ use Rattle.receive.specs.declared.Arrival.{Arrival}
 use Rattle.receive.specs.declared.Arrival.the-variants.{Queued, A1, A2, A3, A4, A5}
 use Rattle.receive.specs.Receive.{hit, queuedUnlessFull, passed, byHit, filtersAndRoom, isQueued, queuedFlag, filterFlag, queueAfter, message as messageAt, arrived}
 use Rattle.judged.specs.Judged.{quietMode, takesNoFrames, unacknowledged, reason}
-use Rattle.changed.specs.Changed.{countedFrame, heard as heardAt, reachesTemporary, frameAfter}
+use Rattle.changed.specs.Changed.{countedFrame, heard, reachesTemporary, frameAfter}
 use Rattle.bus.specs.Event.{reasonOf}
 use Rattle.promise.specs.Counting.{frameHeard}
 use Rattle.promise.specs.Flags.{rxtmp, rxfifo, f0mess, f1mess, raise, together}
@@ -35,7 +35,7 @@ use Rattle.promise.specs.Filters.{compared}
 use Rattle.promise.specs.Frames.{Frame, message}
 use Rattle.promise.specs.Ledger.{left, accepts}
 use Rattle.promise.specs.Arrivals.{filhitNow, arriving, firstTrue, fromTheBus, reasons}
-use Rattle.promise.specs.Noted.{reaches, heard, frameMet}
+use Rattle.promise.specs.Noted.{reaches, arrivalMet, frameMet}
 use Rattle.promise.specs.Records.{Records}
 use Rattle.promise.specs.Settings.{Settings, patterns, filton as filtonBit}
 use Rattle.promise.proofs.Banks.{bank-patterns}
@@ -197,26 +197,26 @@ module _ (d : Device) (r : Records) (h : Kept d r) where
     -- ---- the device and the records after it
 
     module _ (what : Arrival) (room : isQueued what ≡ true → d .rx .count < 8) where
-      heard-flags : bitOr (bitOr (bitOr (d .regs .intf) rxtmp) (queuedFlag (isQueued what))) (filterFlag (hit d header payload))
-          ≡ together (heard r f (reasonOf what) .flags)
+      arrival-flags : bitOr (bitOr (bitOr (d .regs .intf) rxtmp) (queuedFlag (isQueued what))) (filterFlag (hit d header payload))
+          ≡ together (arrivalMet r f (reasonOf what) .flags)
       unfolding queuedFlag
-      heard-flags =
+      arrival-flags =
           filter-flags (bitOr (bitOr (d .regs .intf) rxtmp) (queuedFlag (isQueued what))) (hit d header payload) (hit-below d header payload)
           ∙ rw (filhit-same, queued-same what, h .2 .3) (sym (flags-risen (reasonOf what) (f .filhit) (r .flags)))
 
-      heard-queue : HoldsLedger (queueAfter (d .rx) (message f) (eqb (reasonOf what) 0)) (pick (eqb (reasonOf what) 0) (accepts (r .ledger) f) (r .ledger))
-      heard-queue =
+      arrival-queue : HoldsLedger (queueAfter (d .rx) (message f) (eqb (reasonOf what) 0)) (pick (eqb (reasonOf what) 0) (accepts (r .ledger) f) (r .ledger))
+      arrival-queue =
           queue-after (d .rx) (r .ledger) (h .3 .2) (eqb (reasonOf what) 0) f
           (λ told. room (rw (queued-same what) told))
           (λ told. shows-fields f ok)
 
-      pub heard-kept : Kept (arrived d header payload what) (heard r f (reasonOf what))
+      pub arrival-kept : Kept (arrived d header payload what) (arrivalMet r f (reasonOf what))
       unfolding arrived raised
-      heard-kept = (
+      arrival-kept = (
         h .0,
         h .1,
-        (h .2 .0, h .2 .1, h .2 .2, heard-flags),
-        (ap (λ (m : Message). drop 1 (m .bytes)) message-same, filhit-same, rw (message-same, queued-same what) heard-queue, shows-fields f ok),
+        (h .2 .0, h .2 .1, h .2 .2, arrival-flags),
+        (ap (λ (m : Message). drop 1 (m .bytes)) message-same, filhit-same, rw (message-same, queued-same what) arrival-queue, shows-fields f ok),
         h .4,
       )
 
@@ -225,9 +225,9 @@ module _ (d : Device) (r : Records) (h : Kept d r) where
       counted-same = rw (h .2 .0, ap (λ (s : Settings). s .acting) (h .0))
 
       pub frame-kept : Kept (frameAfter d header payload what) (frameMet r f (reasonOf what))
-      unfolding frameAfter heardAt
+      unfolding frameAfter heard
       frame-kept =
           rw (reaches-same what)
           (pick-both Kept (reaches (reasonOf what)) _ _ _ _
-          (heard-kept .0, heard-kept .1, (counted-same, heard-kept .2 .1, heard-kept .2 .2, heard-kept .2 .3), heard-kept .3, heard-kept .4)
+          (arrival-kept .0, arrival-kept .1, (counted-same, arrival-kept .2 .1, arrival-kept .2 .2, arrival-kept .2 .3), arrival-kept .3, arrival-kept .4)
           (activity-kept d r h))

@@ -1,4 +1,4 @@
--- Each wrong device of `specs/Wrong`, by the promise that it breaks, and on what. Assumes nothing.
+-- Each wrong device of `specs/Wrong` and `WrongRegisters`, by the promise that it breaks, and on what. Assumes nothing.
 use mathlib.Core.Path.{refl}
 use mathlib.Core.Bool.{true, false}
 use mathlib.Core.List.{List, [], _∷_, _++_, map}
@@ -14,10 +14,10 @@ use Rattle.events.specs.declared.Event.the-variants.{GoodFrame, ReceiveError, T
 use Rattle.bus.specs.declared.types.Pins.{Pins}
 use Rattle.promise.specs.Sequence.{Input, spi, wire, Machine, shipped, run}
 use Rattle.promise.specs.Held.{Holds}
-use Rattle.promise.specs.Ranges.{inRange}
+use Rattle.promise.specs.Ranges.{deviceInRange}
 use Rattle.promise.specs.Records.{Records, start, with-counters as with-counted}
 use Rattle.promise.specs.Settings.{modeNamed}
-use Rattle.promise.specs.Wrong.{onlyFirst, leisurely, roomFirst, reasonsExchanged, ghost, deniesDone, believesAll, takesTwo, shortTakes, codeClipped}
+use Rattle.promise.specs.Wrong.{onlyFirst, leisurely, roomFirst, reasonsExchanged, boasts, deniesDone, believesAll, takesTwo, shortTakes, codeClipped}
 use Rattle.promise.specs.Wrong.{keepsBehind, resetKeeps, modeClears, strangersUnseen, oldCompletion, nothingCopied}
 use Rattle.promise.specs.WrongRegisters.{commandsExchanged, filterElsewhere, sleepsAtOnce, modeStays, borElsewhere, tx1mKept, filtonIgnored}
 use Rattle.promise.specs.WrongRegisters.{errsExchanged, errCleared, intfKept, intByStatfe, showsAnother, hitAtRead, repliesZeros, blind, groupsAlways}
@@ -133,7 +133,7 @@ abbrev pub oddRecords : Records
 oddRecords = with-counted start groupsLeft
 
 pub odd-holds : Holds oddDevice oddRecords
-unfolding inRange modeNamed fresh empty
+unfolding deviceInRange modeNamed fresh empty
 odd-holds = record {
   fits = refl;
   shaped = fresh-holds .shaped;
@@ -167,7 +167,7 @@ cases =
     undue showsAnother two read ∷
     undue hitAtRead filtersLater read ∷
     undue repliesZeros two read ∷
-    undue ghost (toNormal ∷ []) (wire BusQuiet []) ∷
+    undue boasts (toNormal ∷ []) (wire BusQuiet []) ∷
     undue strangersUnseen (noneMatches ++ filtersOn ∷ scan 1 ∷ []) (spi (0x44 ∷ []) (replicate 13 0xFF)) ∷
     undue blind error (ask 0xEA) ∷
     undue clearsFirst error (ask 0xDE) ∷

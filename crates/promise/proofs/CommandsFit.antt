@@ -18,7 +18,7 @@ use Rattle.chip.specs.State.{fresh, modeOf, sleep, idle, firstInFifo, alone, re
 use Rattle.flags.specs.Flags.{raised}
 use Rattle.flags.specs.Reset.{reset}
 use Rattle.transmit.specs.Transmit.{aborted, cleared, leftAlone, stopped}
-use Rattle.modes.specs.Modes.{modeChanged, writeCtrl0}
+use Rattle.modes.specs.Modes.{modeChanged, ctrl0Written}
 use Rattle.done.specs.Done.{registerDeeds, registersAfter, registerChanged, messageTaken, entryTaken, receiveCleared, timeReset, messageWritten, filterWritten}
 use Rattle.done.specs.Done.{maskWritten, recWritten, tecWritten, deeds, does}
 use Rattle.promise.proofs.Among.{_and_, among-keeps}
@@ -52,8 +52,8 @@ module _ (d : Device) (h : InRange d) where
     h .8,
   )
 
-  ctrl0-in : (v : ℕ) → InRange (writeCtrl0 d v)
-  unfolding writeCtrl0 modeChanged raised stopped reset fresh modeOf
+  ctrl0-in : (v : ℕ) → InRange (ctrl0Written d v)
+  unfolding ctrl0Written modeChanged raised stopped reset fresh modeOf
   ctrl0-in v =
       pick-under InRange (resetBit v) _ _
       (λ resets. (empty-fits, empty-fits, empty-fits, h .3, h .4, refl, refl, refl, refl))

@@ -24,7 +24,7 @@ use Rattle.done.specs.Done.{filterWritten, maskWritten, recWritten, tecWritten,
 use Rattle.promise.specs.Counting.{recWritten as recMoved, tecWritten as tecMoved}
 use Rattle.promise.specs.Ledger.{takes}
 use Rattle.promise.specs.Outbox.{queued}
-use Rattle.promise.specs.Own.{messageFits, messageWritten as message, ownMessage}
+use Rattle.promise.specs.Own.{messageFits, messageIn, ownMessage}
 use Rattle.promise.specs.Noted.{deeds, commanded}
 use Rattle.promise.specs.Held.{Banked}
 use Rattle.promise.specs.Records.{Records, with-ledger, with-outbox, with-settings}
@@ -71,13 +71,13 @@ module _ (d : Device) (r : Records) (h : Kept d r) (bytes : List ℕ) (some : eq
       (h .0, h .1, h .2, (h .3 .0, h .3 .1, takes-holds (d .rx) (r .ledger) (h .3 .2) (d .rx .count - 1) (omega (arith, none)), h .3 .3), h .4)
 
   written : {B : Type 0} → (findsFull (d .tx .count) writeMessage ≡ false) × B × (messageFits (drop 1 bytes) ≡ true)
-      → Kept (messageWritten d bytes) (with-outbox r (queued (r .outbox) (message (drop 1 bytes))))
+      → Kept (messageWritten d bytes) (with-outbox r (queued (r .outbox) (messageIn (drop 1 bytes))))
   unfolding messageWritten findsFull
   written a =
       let s = drop 1 bytes in
       let fits = fits-same s ∙ a .2 in
-      let same-message : brought bytes ≡ ownMessage (message s) = ap (λ (b : List ℕ). record { bytes = b }) (stored-own s fits) in
-      rw (some, same-message) (h .0, h .1, h .2, h .3, written-boxed _ _ _ _ _ _ (h .4) (message s) (written-sendable s fits) (a .0))
+      let same-message : brought bytes ≡ ownMessage (messageIn s) = ap (λ (b : List ℕ). record { bytes = b }) (stored-own s fits) in
+      rw (some, same-message) (h .0, h .1, h .2, h .3, written-boxed _ _ _ _ _ _ (h .4) (messageIn s) (written-sendable s fits) (a .0))
 
   filter : (k : ℕ) {A : Type 0} → A
       → Kept (filters-in d (set (d .filters) k (pattern bytes))) (with-settings r (with-filters (r .settings) (set (r .settings .filters) k (six bytes))))

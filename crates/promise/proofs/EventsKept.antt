@@ -36,11 +36,11 @@ use Rattle.promise.specs.Flags.{txcplt, kindBit}
 use Rattle.promise.specs.Frames.{Frame}
 use Rattle.promise.specs.Outbox.{inFlight, rests}
 use Rattle.promise.specs.Arrivals.{arriving, own, frame, nothing, dueOf, valuesDue}
-use Rattle.promise.specs.Noted.{begunMet, completedMet, heard, happened}
+use Rattle.promise.specs.Noted.{begunMet, completedMet, arrivalMet, happened}
 use Rattle.promise.specs.Own.{Own}
 use Rattle.promise.specs.Records.{Records}
 use Rattle.promise.specs.Settings.{Settings, settingsOf, with-ctrl1, withoutTx1m, with-pin, osm, bor as borBit}
-use Rattle.promise.proofs.Arrivals.{bus-due, own-due, bus-finds, own-finds, heard-kept, frame-kept}
+use Rattle.promise.proofs.Arrivals.{bus-due, own-due, bus-finds, own-finds, arrival-kept, frame-kept}
 use Rattle.promise.proofs.Boxes.{rests-same, buffer-runs, halted-boxed, begun-boxed, transmitted-boxed}
 use Rattle.promise.proofs.Fits.{some-wait}
 use Rattle.promise.proofs.Kept.{Kept}
@@ -117,23 +117,23 @@ module _ (d : Device) (r : Records) (h : Kept d r) where
     unfolding own-told
     own-says = ap (λ n. n ∷ []) (own-due d r h (ownHeader d) (ownData d) own-possible) ∙ ap (λ (f : Frame). dueOf r (frame f [])) own-same
 
-    own-kept : Kept (echoed d own-told) (completedMet (heard r (own r) (reasonOf own-told)))
+    own-kept : Kept (echoed d own-told) (completedMet (arrivalMet r (own r) (reasonOf own-told)))
     unfolding echoed own-told
     own-kept =
         let arrives = arriving r (ownHeader d) (ownData d) in
-        subst (λ (f : Frame). Kept (echoed d own-told) (completedMet (heard r f (reasonOf own-told)))) own-same
-        (transmitted-kept (arrived d (ownHeader d) (ownData d) own-told) (heard r arrives (reasonOf own-told))
-        (heard-kept d r h (ownHeader d) (ownData d) own-possible own-told (own-finds d r h (ownHeader d) (ownData d) own-possible))
+        subst (λ (f : Frame). Kept (echoed d own-told) (completedMet (arrivalMet r f (reasonOf own-told)))) own-same
+        (transmitted-kept (arrived d (ownHeader d) (ownData d) own-told) (arrivalMet r arrives (reasonOf own-told))
+        (arrival-kept d r h (ownHeader d) (ownData d) own-possible own-told (own-finds d r h (ownHeader d) (ownData d) own-possible))
         some)
 
     by-mode : (t : Bool)
         → Kept
         (outcome d Completed payload (pick t (Arrived own-told) Done) .device)
-        (completedMet (pick t (heard r (own r) (byte (dueOf r (pick t (frame (own r) []) nothing)) 1)) r))
+        (completedMet (pick t (arrivalMet r (own r) (byte (dueOf r (pick t (frame (own r) []) nothing)) 1)) r))
         × (valuesOf (outcome d Completed payload (pick t (Arrived own-told) Done) .answer) ≡ dueOf r (pick t (frame (own r) []) nothing))
     unfolding arrival after valuesOf
     by-mode true = (
-      subst (λ (n : ℕ). Kept (echoed d own-told) (completedMet (heard r (own r) n))) (ap (λ values. byte values 1) own-says) own-kept,
+      subst (λ (n : ℕ). Kept (echoed d own-told) (completedMet (arrivalMet r (own r) n))) (ap (λ values. byte values 1) own-says) own-kept,
       own-says,
     )
     by-mode false = (transmitted-kept d r h some, refl)

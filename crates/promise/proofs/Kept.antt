@@ -15,7 +15,7 @@ use Rattle.promise.specs.Flags.{together}
 use Rattle.promise.specs.Frames.{message}
 use Rattle.promise.specs.Numbers.{situation}
 use Rattle.promise.specs.Outbox.{rests}
-use Rattle.promise.specs.Ranges.{inRange}
+use Rattle.promise.specs.Ranges.{deviceInRange}
 use Rattle.promise.specs.Due.{situationOf}
 use Rattle.promise.specs.Held.{Banked}
 use Rattle.promise.specs.Records.{Records, start}
@@ -62,7 +62,7 @@ module _ (d : Device) (r : Records) (range : InRange d) (h : Kept d r) where
   -- what the table of numbers asks about the device is what the records say
   pub situation-same : situation d ≡ situationOf r
   situation-same =
-      let fits : inRange d ≡ true = sym (proper-same d) ∙ ranges-proper d range in
+      let fits : deviceInRange d ≡ true = sym (proper-same d) ∙ ranges-proper d range in
       let acting = acting-same in
       let ctrl1 : d .regs .ctrl1 ≡ s .ctrl1 = ap (λ (s : Settings). s .ctrl1) (h .0) in
       let pin : d .txenpin ≡ s .pin = ap (λ (s : Settings). s .pin) (h .0) in

@@ -1,4 +1,4 @@
--- The lowest number whose row says so, and when it is a given one. Assumes nothing.
+-- The first number that applies, and when it is a given one. Assumes nothing.
 use mathlib.Core.Path.{_≡_, refl, sym, _∙_}
 use mathlib.Core.Bool.{Bool, true, false, false≢true}
 use Prim.Native.Nat.{ℕ, zero, suc, _<_, _≤_, _+_}
@@ -10,7 +10,7 @@ use Rattle.base.specs.Pick.{pick}
 use Rattle.promise.specs.Numbers.{firstFrom}
 
 module _ (says : ℕ → Bool) where
-  -- the row of n says so, and none from k on to n does
+  -- n applies, and none from k on to n does
   abbrev pub FirstFrom : ℕ → ℕ → Type 0
   FirstFrom k n = (says n ≡ true) × ((m : ℕ) → k ≤ m → m < n → says m ≡ false)
 

@@ -11,17 +11,17 @@ use Rattle.base.specs.Bit.{byte}
 use Rattle.base.specs.Pick.{pick}
 use Rattle.filter.specs.declared.Hit.the-variants.{Filter}
 use Rattle.filter.specs.Lowest.{lowestFrom as lowestOf, lowest, filhit}
-use Rattle.filter.specs.Match.{agree, byteOf, placeOf, countedOf, matches as matchesBy}
+use Rattle.filter.specs.Match.{agree, bitFromTop, bitAtPlace, countedOf, matches as matchesBy}
 use Rattle.filter.proofs.Agree.{from, agree-more}
 use Rattle.promise.proofs.Choices.{pick-part}
 use Rattle.promise.specs.Filters.{all, eightBits, bitAgrees, matches, lowestFrom, filhitOf}
 
 -- a byte's eight places
-byte-agrees : (x f m : ℕ) → agree 8 (byteOf x) (byteOf f) (byteOf m) ≡ all (bitAgrees x f m) eightBits
+byte-agrees : (x f m : ℕ) → agree 8 (bitFromTop x) (bitFromTop f) (bitFromTop m) ≡ all (bitAgrees x f m) eightBits
 byte-agrees x f m = simp (and-assoc, and-true)
 
 -- byte 4 has one that doesn't count
-fourth-agrees : (x f m : ℕ) → agree 8 (byteOf x) (byteOf f) (λ k. pick (eqb k 7) 0 (byteOf m k)) ≡ all (bitAgrees x f m) (7 ∷ 6 ∷ 5 ∷ 4 ∷ 3 ∷ 2 ∷ 1 ∷ [])
+fourth-agrees : (x f m : ℕ) → agree 8 (bitFromTop x) (bitFromTop f) (λ k. pick (eqb k 7) 0 (bitFromTop m k)) ≡ all (bitAgrees x f m) (7 ∷ 6 ∷ 5 ∷ 4 ∷ 3 ∷ 2 ∷ 1 ∷ [])
 fourth-agrees x f m = simp (and-assoc, and-true)
 
 -- one byte, and n places more
@@ -31,10 +31,10 @@ next-byte n x f m a b first rest = agree-more n 8 x f m ∙ ap₂ _&&_ first res
 module _ (frame filter mask : List ℕ) where
   -- the places from the one of number k on
   abbrev x : ℕ → ℕ → ℕ
-  x k = from k (placeOf frame)
+  x k = from k (bitAtPlace frame)
 
   abbrev f : ℕ → ℕ → ℕ
-  f k = from k (placeOf filter)
+  f k = from k (bitAtPlace filter)
 
   abbrev m : ℕ → ℕ → ℕ
   m k = from k (countedOf mask)

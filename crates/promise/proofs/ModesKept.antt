@@ -12,7 +12,7 @@ use Rattle.chip.specs.State.{fresh, sleep, resetBit, wakeup}
 use Rattle.flags.specs.Flags.{raised}
 use Rattle.flags.specs.Reset.{reset as resetDevice}
 use Rattle.transmit.specs.Transmit.{stopped}
-use Rattle.modes.specs.Modes.{put-ctrl0, modeChanged as changedDevice, writeCtrl0, canSleep, busQuiet, busActivity}
+use Rattle.modes.specs.Modes.{put-ctrl0, modeChanged as changedDevice, ctrl0Written as writtenDevice, canSleep, busQuiet, busActivity}
 use Rattle.frame.specs.Length.{dataOf, dataBytes, dataLength}
 use Rattle.frame.specs.Received.{received}
 use Rattle.frame.specs.Tables.{idAsRead, idBits}
@@ -81,8 +81,8 @@ module _ (d : Device) (r : Records) (h : Kept d r) where
           halted-boxed _ _ _ _ _ _ (h .4),
         )
 
-    pub ctrl0-kept : Kept (writeCtrl0 d v) (ctrl0Written r v)
-    unfolding writeCtrl0
+    pub ctrl0-kept : Kept (writtenDevice d v) (ctrl0Written r v)
+    unfolding writtenDevice
     ctrl0-kept =
         rw (mode-named v)
         (pick-both Kept (resetBit v) _ _ _ _ asked-reset-kept (named-kept (eqb (modeNamed v) sleep) (eqb (modeNamed v) (d .acting)) refl refl))

@@ -22,7 +22,7 @@ use Rattle.bus.proofs as bus
 use Rattle.one.specs.Law.{Inputs, Model, stated, Satisfies, has-part}
 use Rattle.promise.specs.Sequence.{Input, wire, Step, shipped, values}
 use Rattle.promise.specs.Calls.{IsTheCode}
-use Rattle.promise.specs.Wrong.{ghost}
+use Rattle.promise.specs.Wrong.{boasts}
 
 abbrev tick : Input
 tick = wire (Ticks 1) (replicate 8 0)
@@ -63,12 +63,12 @@ satisfies = record { model = model; ghost = tt; resource = w₀ .𝓤 .one; hold
 abbrev told : Step → ℕ
 told s = length (values (s .given))
 
-differ : (told (shipped fresh tick) ≡ 0) × (told (ghost fresh tick) ≡ 1)
+differ : (told (shipped fresh tick) ≡ 0) × (told (boasts fresh tick) ≡ 1)
 unfolding State.fresh Proper.proper Proper.registersInRange Proper.sendingInRange Proper.actingInRange State.modeOf Queue.empty Queue.inRange
     Judged.impossible Judged.said Event.answer Event.event Event.valuesOf Event.reasonOf
 differ = (refl, refl)
 
-pub not-the-code : IsTheCode ghost pins fresh → ⊥
+pub not-the-code : IsTheCode boasts pins fresh → ⊥
 not-the-code code =
     ∥∥₁-elim (has-part (code M .1) arguments given satisfies) (λ x y. absurd x)
     (λ p. suc-ne-zero 0 (sym (differ .1) ∙ sym (ap told (p .1)) ∙ differ .0))

@@ -24,7 +24,7 @@ use Rattle.to_send.specs.declared.ToSend.{ToSend}
 use Rattle.to_send.specs.ToSend.{standardHeader, extendedHeader, headerToSend, rightLength, messageOf, stored}
 use Rattle.to_send.proofs.StoredBack.{stored-header, stored-data}
 use Rattle.promise.specs.Frames.{dataCount, dataByte}
-use Rattle.promise.specs.Own.{Own, noMessage, marksExtended, dataFrom, standardWritten, extendedWritten, headerWritten, messageFits, messageWritten, ownMessage, Sendable}
+use Rattle.promise.specs.Own.{Own, noMessage, marksExtended, dataFrom, standardWritten, extendedWritten, headerWritten, messageFits, messageIn, ownMessage, Sendable}
 use Rattle.promise.proofs.Queues.{data-length}
 use Rattle.promise.proofs.Shown.{count-same, arrives-same, data-at, identifier-laid}
 
@@ -154,10 +154,10 @@ module _ (s : List ℕ) where
         let long = leb-true (dataFrom s + dataBytes h) (length s) (and-left (leb (dataFrom s + dataBytes h) (length s)) _ fits) in
         rw (length-drop (dataFrom s) s) (omega arith)
 
-    eight-is : messageWritten s .eight ≡ dataOf h raw
+    eight-is : messageIn s .eight ≡ dataOf h raw
     eight-is = rw (header-reduced s) (sym (data-listed h raw enough))
 
-    pub written-sendable : Sendable (messageWritten s)
+    pub written-sendable : Sendable (messageIn s)
     unfolding dataFits
     written-sendable =
         let g = headerWritten s in (
@@ -166,7 +166,7 @@ module _ (s : List ℕ) where
           data-again g raw,
         )
 
-    pub stored-own : stored (messageOf s .message) ≡ ownMessage (messageWritten s) .bytes
+    pub stored-own : stored (messageOf s .message) ≡ ownMessage (messageIn s) .bytes
     unfolding messageOf
     stored-own =
-        rw (fits, own-stored (messageWritten s) written-sendable, eight-is, header-reduced s) (stored-reduced (byte s 1) h (dataOf h raw))
+        rw (fits, own-stored (messageIn s) written-sendable, eight-is, header-reduced s) (stored-reduced (byte s 1) h (dataOf h raw))

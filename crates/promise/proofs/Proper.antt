@@ -8,7 +8,7 @@ use Rattle.chip.specs.State.{fresh, modeOf}
 use Rattle.chip.specs.Proper.{proper}
 use Rattle.promise.specs.Promises.{OneIsNeverGiven}
 use Rattle.promise.specs.Sequence.{Input, spi, wire, shipped as step, run}
-use Rattle.promise.specs.Numbers.{situation, row}
+use Rattle.promise.specs.Numbers.{situation, applies}
 use Rattle.promise.proofs.Answered.{exactly}
 use Rattle.promise.proofs.Steps.{keeps, by-transfer, by-event}
 use Rattle.promise.proofs.Ranges.{InRange, ranges-proper, proper-same, empty-fits}
@@ -31,10 +31,10 @@ reached-in is = keeps (λ (u : Unit {0}) i given. u) (λ d u. InRange d) (λ d u
 pub reached : (is : List Input) → proper (run step fresh is) ≡ true
 reached is = ranges-proper (run step fresh is) (reached-in is)
 
-row-one : (d : Device) (i : Input) → row (situation d) i 1 ≡ not (proper d)
-row-one d (spi bytes buffer) = rw (proper-same d)
-row-one d (wire e payload) = rw (proper-same d)
+one-applies : (d : Device) (i : Input) → applies (situation d) i 1 ≡ not (proper d)
+one-applies d (spi bytes buffer) = rw (proper-same d)
+one-applies d (wire e payload) = rw (proper-same d)
 
 pub never-one : OneIsNeverGiven
 never-one is i one =
-    false≢true (rw (row-one (run step fresh is) i, reached is) at (exactly (run step fresh is) i 1 (omega arith) (omega arith) .0 one .0))
+    false≢true (rw (one-applies (run step fresh is) i, reached is) at (exactly (run step fresh is) i 1 (omega arith) (omega arith) .0 one .0))

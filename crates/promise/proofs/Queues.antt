@@ -19,7 +19,7 @@ use Rattle.frame.specs.Received.{received}
 use Rattle.frame.specs.Tables.{idAsRead}
 use Rattle.receive.specs.Receive.{queueAfter}
 use Rattle.promise.specs.Frames.{Frame, blank, message, Shows}
-use Rattle.promise.specs.Ledger.{Ledger, cleared, left, oldest, accepts, takes}
+use Rattle.promise.specs.Ledger.{Ledger, emptyLedger, left, oldest, accepts, takes}
 use Rattle.promise.specs.Held.{Each}
 use Rattle.promise.proofs.Choices.{pick-under}
 use Rattle.promise.proofs.Each.{each-more}
@@ -69,7 +69,7 @@ pub record HoldsLedger (q : Fifo) (l : Ledger) : Type 0 where
   pub whole : map message (l .taken) ++ waiting q ≡ map message (l .accepted)
   pub shown : Each Shown (l .accepted)
 
-pub empty-holds : HoldsLedger empty cleared
+pub empty-holds : HoldsLedger empty emptyLedger
 unfolding empty
 empty-holds = record { places = refl; whole = refl; shown = tt }
 

@@ -14,7 +14,7 @@ use Rattle.fifo.specs.Queue.{empty, full, isEmpty, put, take, inRange}
 use Rattle.chip.specs.declared.Device.{Device}
 use Rattle.chip.specs.Proper.{filhitFits, registersInRange, sendingFits, sendingInRange, actingFits, actingInRange, proper}
 use Rattle.chip.specs.State.{modeOf, normal, loopback, monitor, sleep, initialization}
-use Rattle.promise.specs.Ranges.{runsFit, inRange as inRangeOf}
+use Rattle.promise.specs.Ranges.{runsFit, deviceInRange}
 use Rattle.promise.specs.Settings.{modeNamed}
 
 -- ---- the mode that CTRL0 names
@@ -56,8 +56,8 @@ runs-fit (suc (suc (suc n))) toSend =
       lt-leb (suc (suc (suc n))) 2 (omega arith),
     )
 
-pub proper-same : (d : Device) → proper d ≡ inRangeOf d
-unfolding proper registersInRange sendingInRange actingInRange inRange inRangeOf
+pub proper-same : (d : Device) → proper d ≡ deviceInRange d
+unfolding proper registersInRange sendingInRange actingInRange inRange deviceInRange
 proper-same d =
     rw (runs-fit (d .sending) (d .tx .count), ← mode-named (d .regs .ctrl0))
     (simp and-assoc)

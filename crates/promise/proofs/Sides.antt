@@ -163,10 +163,10 @@ unfolding Transfer.transfer Transfer.replyAfter Refused.lengthFits Refused.setsU
     Proper.proper State.modeOf State.fresh State.enabled State.bank Queue.empty Queue.put Queue.take Queue.next Queue.inRange Table.rows
     ToSend.headerToSend ToSend.rightLength ToSend.messageOf ToSend.stored Done.pattern Done.registersAfter Done.registerChanged Done.messageTaken
     Done.entryTaken Done.receiveCleared Done.timeReset Done.messageWritten Done.filterWritten Done.maskWritten Done.recWritten Done.tecWritten
-    Done.does Modes.modeChanged Modes.writeCtrl0 Modes.canSleep Modes.busQuiet Modes.busActivity Flags.raised Flags.busError Reset.reset Receive.hit
+    Done.does Modes.modeChanged Modes.ctrl0Written Modes.canSleep Modes.busQuiet Modes.busActivity Flags.raised Flags.busError Reset.reset Receive.hit
     Receive.queuedUnlessFull Receive.passed Receive.byHit Receive.filtersAndRoom Receive.isQueued Receive.queuedFlag Receive.filterFlag Receive.queueAfter
     Receive.arrived Lowest.lowest Lowest.filhit Match.matches Length.dataLength Length.dataBytes Length.possible Length.dataFits Length.dataOf
-    Ranges.inRange Filters.filhitOf Received.received Received.headerIn Tables.idBits Tables.idToSend Tables.idAsRead Tables.compared Judged.quietMode Judged.noErrors Judged.runs
+    Ranges.deviceInRange Filters.filhitOf Received.received Received.headerIn Tables.idBits Tables.idToSend Tables.idAsRead Tables.compared Judged.quietMode Judged.noErrors Judged.runs
     Judged.impossibleFrame Judged.impossible Judged.takesNoFrames Judged.unacknowledged Judged.reason Judged.echo Judged.said Changed.errBit
     Changed.countedFrame Changed.heard Changed.reachesTemporary Changed.frameAfter Changed.countedReceiveError Changed.receiveErrorMet Changed.dominantMet
     Changed.countedTransmitError Changed.transmitErrorMet Changed.echoed Changed.recessiveMet Changed.ticked Changed.pinSet Changed.arrival Changed.after
@@ -175,6 +175,6 @@ unfolding Transfer.transfer Transfer.replyAfter Refused.lengthFits Refused.setsU
     Transmit.begun Transmit.stopped Transmit.aborted Transmit.leftAlone Transmit.cleared Transmit.stamped Transmit.fifoAfter
     Transmit.countedCompletion Transmit.transmitted Shown.cut Shown.register Shown.shows
     Drawn.int Drawn.stat Drawn.gp Drawn.statf Levels.errw Levels.errp Levels.rxerrp Levels.txerrp Levels.groupsShown Levels.tecShown Pins.pins
-    Commands.isCommand Commands.lengthsOf Commands.setsUp Commands.rightLength Numbers.findsNone Numbers.cannotBe Numbers.numberDue
+    Commands.isCommand Commands.lengthsOf Commands.setsUp Commands.transferFits Numbers.findsNone Numbers.cannotBe Numbers.numberDue
     Noted.happened Noted.commanded Registers.intf Registers.err Registers.statf Registers.messtat Registers.shown Settings.modeNamed
 differ = refl

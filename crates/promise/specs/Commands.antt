@@ -77,8 +77,8 @@ followed least most = record { least = least; most = most; out = 0 }
 
 abbrev pub lengths : List (ℕ × Lengths)
 lengths =
-    -- "a register write has 1 byte after it, a filter or mask write 6"
     sameFor resets (byItself 0) ++
+    -- "a register write has 1 byte after it, a filter or mask write 6"
     sameFor registerWrites (followed 1 1) ++
     sameFor filterWrites (followed 6 6) ++
     sameFor maskWrites (followed 6 6) ++
@@ -100,8 +100,8 @@ isCommand c = oneOf c (map (λ l. l .0) lengths)
 unfoldable pub lengthsOf : ℕ → Lengths
 lengthsOf c = among c lengths (byItself 0)
 
-unfoldable pub rightLength : List ℕ → Bool
-rightLength bytes =
+unfoldable pub transferFits : List ℕ → Bool
+transferFits bytes =
     let l = lengthsOf (byte bytes 1) in
     leb (l .least + 1) (length bytes) &&
     (leb (length bytes) (l .most + 1) && pick (eqb (byte bytes 1) 0x12) (messageFits (drop 1 bytes)) true)

@@ -15,7 +15,7 @@ use Rattle.promise.specs.Flags.{together}
 use Rattle.promise.specs.Frames.{message, Shows}
 use Rattle.promise.specs.Outbox.{Running, none, first, alone, inFlight}
 use Rattle.promise.specs.Own.{ownMessage, Sendable}
-use Rattle.promise.specs.Ranges.{inRange}
+use Rattle.promise.specs.Ranges.{deviceInRange}
 use Rattle.promise.specs.Records.{Records}
 use Rattle.promise.specs.Registers.{pinsShown}
 use Rattle.promise.specs.Settings.{settingsOf}
@@ -98,7 +98,7 @@ Shaped d =
     × Each Entry (waiting (d .history))
 
 pub record Holds (d : Device) (r : Records) : Type 0 where
-  pub fits : inRange d ≡ true
+  pub fits : deviceInRange d ≡ true
   pub shaped : Shaped d
   pub settled : Settled d r
   pub counted : Counted d r

@@ -9,8 +9,8 @@ pub record Ledger : Type 0 where
   pub accepted : List Frame
   pub taken : List Frame
 
-abbrev pub cleared : Ledger
-cleared = record { accepted = []; taken = [] }
+abbrev pub emptyLedger : Ledger
+emptyLedger = record { accepted = []; taken = [] }
 
 -- how many wait: the frames accepted less those that reads took
 abbrev pub left : Ledger → ℕ

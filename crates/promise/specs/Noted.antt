@@ -23,14 +23,14 @@ use Rattle.promise.specs.Settings.{withoutTx1m, with-pin, settingWrites,
 use Rattle.promise.specs.Counting.{recUp, frameHeard, tecUp, tecDown, unlessMonitor, groupMet, recWritten}
 use Rattle.promise.specs.Counting.{tecWritten}
 use Rattle.promise.specs.Flags.{rxtmp, rxfifo, txcplt, buserr, mchg, wakeupFlag, f1mess, f0mess, kindBit, raise}
-use Rattle.promise.specs.Ledger.{cleared, accepts, takes}
-use Rattle.promise.specs.Own.{messageWritten}
+use Rattle.promise.specs.Ledger.{emptyLedger, accepts, takes}
+use Rattle.promise.specs.Own.{messageIn}
 use Rattle.promise.specs.Outbox.{emptied, queued, begun, halted, clearedOut, transmitted, entryTaken, rests}
 
 -- ---- modes and resets
 
 -- "0x5A, 0x56, the MR pin and any register bit that 000 makes a master reset clear the receive FIFO." "ERR keeps its
--- bits over a reset; so do REC, TEC and bus off". It raises no flag.
+-- bits over a reset; so do REC, TEC and bus off". It raises no flag. CTRL0 then reads 0x80, or 0x88 by RESET.
 abbrev pub reset : Records → ℕ → Records
 reset r ctrl0 = record {
   settings = resetTo (r .settings) ctrl0;
@@ -38,7 +38,7 @@ reset r ctrl0 = record {
   ticks = 0;
   kinds = r .kinds;
   flags = [];
-  ledger = cleared;
+  ledger = emptyLedger;
   latest = blank;
   outbox = emptied;
 }
@@ -76,10 +76,10 @@ activityMet r =
 abbrev pub reaches : ℕ → Bool
 reaches told = among told ((1, false) ∷ (2, false) ∷ (3, false) ∷ []) true
 
--- A frame that reaches the filters, by what it is told. RXTMP rises, RXFIFO if it is queued, F0MESS or F1MESS if
--- filter 0 or 1 is the lowest match.
-abbrev pub heard : Records → Frame → ℕ → Records
-heard r f told =
+-- A frame that reaches the temporary buffer, by what it is told. RXTMP rises, RXFIFO if it is queued, F0MESS or
+-- F1MESS if filter 0 or 1 is the lowest match.
+abbrev pub arrivalMet : Records → Frame → ℕ → Records
+arrivalMet r f told =
     with-flags
     (with-ledger (with-latest r f) (pick (eqb told 0) (accepts (r .ledger) f) (r .ledger)))
     (raise (eqb (f .filhit) 9) f1mess (raise (eqb (f .filhit) 8) f0mess (raise (eqb told 0) rxfifo (rxtmp ∷ r .flags))))
@@ -88,7 +88,7 @@ heard r f told =
 abbrev pub frameMet : Records → Frame → ℕ → Records
 frameMet r f told =
     pick (reaches told)
-    (with-counters (heard r f told) (frameHeard (r .counters) (r .settings .acting)))
+    (with-counters (arrivalMet r f told) (frameHeard (r .counters) (r .settings .acting)))
     (activityMet r)
 
 -- ---- errors and transmissions
@@ -125,7 +125,7 @@ happened r DominantBit payload told = with-counters r (moved r (recUp (r .counte
 happened r (TransmitError kind counted) payload told =
     with-outbox (errorMet r kind (pick counted (moved r (tecUp (r .counters))) (r .counters))) (halted (r .outbox))
 happened r Begun payload told = begunMet r
-happened r Completed payload told = completedMet (pick (eqb (r .settings .acting) loopback) (heard r (own r) told) r)
+happened r Completed payload told = completedMet (pick (eqb (r .settings .acting) loopback) (arrivalMet r (own r) told) r)
 happened r ArbitrationLost payload told = with-outbox r (halted (r .outbox))
 happened r ElevenRecessive payload told = with-counters r (groupMet (r .counters) (bor (r .settings)))
 happened r BusQuiet payload told = quietMet r
@@ -148,8 +148,8 @@ deeds r bytes =
     (0x54, with-outbox (with-settings r (disabled (r .settings))) (clearedOut (r .outbox))) ∷
     (0x56, reset r 0x80) ∷
     (0x58, with-ticks r 0) ∷
-    (0x5A, with-ledger r cleared) ∷
-    (0x12, with-outbox r (queued (r .outbox) (messageWritten (drop 1 bytes)))) ∷
+    (0x5A, with-ledger r emptyLedger) ∷
+    (0x12, with-outbox r (queued (r .outbox) (messageIn (drop 1 bytes)))) ∷
     (0x14, ctrl0Written r (byte bytes 2)) ∷
     (0x24, with-counters r (recWritten (r .counters) (byte bytes 2))) ∷
     (0x26, with-counters r (tecWritten (r .counters) (byte bytes 2))) ∷

@@ -18,9 +18,9 @@ use Rattle.bus.specs.Event.{numberOf}
 use Rattle.judged.specs.declared.Answer.{Answer}
 use Rattle.judged.specs.declared.Answer.the-variants.{Refused as RefusedEvent, Done, Arrived}
 use Rattle.promise.specs.Sequence.{Input, spi, wire, Given, replied, answered, Step, Machine, number, run}
-use Rattle.promise.specs.Commands.{messageReads, setsUp, sameFor, isCommand, lengthsOf, rightLength}
+use Rattle.promise.specs.Commands.{messageReads, setsUp, sameFor, isCommand, lengthsOf, transferFits}
 use Rattle.promise.specs.Frames.{canArrive}
-use Rattle.promise.specs.Ranges.{inRange}
+use Rattle.promise.specs.Ranges.{deviceInRange}
 use Rattle.promise.specs.Settings.{normal, loopback, sleep, initialization, enables}
 
 -- ---- what the table asks about a device
@@ -40,7 +40,7 @@ pub record Situation : Type 0 where
 
 abbrev pub situation : Device → Situation
 situation d = record {
-  inRange = inRange d;
+  inRange = deviceInRange d;
   acting = d .acting;
   busoff = d .counters .busoff;
   enabled = enables (d .regs .ctrl1) (d .txenpin);
@@ -82,37 +82,37 @@ cannotBe s Unknown = true
 
 -- ---- the table
 
-abbrev pub isEmpty : List ℕ → Bool
-isEmpty bytes = eqb (length bytes) 0
+abbrev pub emptyTransfer : List ℕ → Bool
+emptyTransfer bytes = eqb (length bytes) 0
 
 -- 7: "a receive FIFO or history read finds none"
 unfoldable pub findsNone : Situation → ℕ → Bool
 findsNone s c = among c (sameFor messageReads (eqb (s .toRead) 0) ++ (0xEE, eqb (s .entries) 0) ∷ []) false
 
--- 01's rows, in its order: whether the row of number n says so
-abbrev pub row : Situation → Input → ℕ → Bool
-row s (spi bytes buffer) n =
+-- 01's rows, in its order: whether number n applies
+abbrev pub applies : Situation → Input → ℕ → Bool
+applies s (spi bytes buffer) n =
     let c = byte bytes 1 in
     among n
     ((1, not (s .inRange)) ∷
-    (2, not (isEmpty bytes) && not (isCommand c)) ∷
-    (3, isEmpty bytes || not (rightLength bytes)) ∷
+    (2, not (emptyTransfer bytes) && not (isCommand c)) ∷
+    (3, emptyTransfer bytes || not (transferFits bytes)) ∷
     (4, ltb (length buffer) (lengthsOf c .out)) ∷
     (5, not (eqb (s .acting) initialization) && setsUp c) ∷
     (6, eqb c 0x12 && leb 8 (s .toSend)) ∷
     (7, findsNone s c) ∷
     [])
     false
-row s (wire e payload) n = among n ((1, not (s .inRange)) ∷ (8, cannotBe s e) ∷ []) false
+applies s (wire e payload) n = among n ((1, not (s .inRange)) ∷ (8, cannotBe s e) ∷ []) false
 
--- of m numbers from k on, the lowest whose row says so; 0 if none does
+-- of m numbers from k on, the first that applies; 0 if none does
 abbrev pub firstFrom : (ℕ → Bool) → ℕ → ℕ → ℕ
-firstFrom says k zero = 0
-firstFrom says k (suc m) = pick (says k) k (firstFrom says (suc k) m)
+firstFrom applies k zero = 0
+firstFrom applies k (suc m) = pick (applies k) k (firstFrom applies (suc k) m)
 
 -- "Checks run in rising order; the first that applies is given, and none otherwise."
 unfoldable pub numberDue : Situation → Input → ℕ
-numberDue s i = firstFrom (row s i) 1 8
+numberDue s i = firstFrom (applies s i) 1 8
 
 -- ---- the promises
 
@@ -141,15 +141,15 @@ module _ (step : Machine) where
   abbrev pub Answered : Type 0
   Answered = (d : Device) (i : Input) → (numberGiven d i ≤ 8) × Fits i (step d i .given)
 
-  -- The number is the lowest whose row says so, and 0 if none does.
+  -- The number is the first that applies, and 0 if none does.
   abbrev pub First : Type 0
   First = (d : Device) (i : Input) → numberGiven d i ≡ numberDue (situation d) i
 
-  -- Each number but 0 is given exactly when its row says so and no lower one does.
+  -- Each number but 0 is given exactly when it applies and no lower one does.
   abbrev pub Exactly : Type 0
   Exactly = (d : Device) (i : Input) (n : ℕ) → 0 < n → n ≤ 8
       → (numberGiven d i ≡ n)
-      ↔ ((row (situation d) i n ≡ true) × ((m : ℕ) → 0 < m → m < n → row (situation d) i m ≡ false))
+      ↔ ((applies (situation d) i n ≡ true) × ((m : ℕ) → 0 < m → m < n → applies (situation d) i m ≡ false))
 
   -- "A refusal leaves device and reply buffer unchanged."
   abbrev pub Refused : Type 0

@@ -58,8 +58,8 @@ headerWritten s = pick (marksExtended s) (extendedWritten s) (standardWritten s)
 abbrev pub messageFits : List ℕ → Bool
 messageFits s = leb (dataFrom s + dataCount (headerWritten s)) (length s) && leb (length s) (dataFrom s + 8)
 
-abbrev pub messageWritten : List ℕ → Own
-messageWritten s = record {
+abbrev pub messageIn : List ℕ → Own
+messageIn s = record {
   tag = byte s 1;
   header = headerWritten s;
   eight = tabulate (dataByte (headerWritten s) (drop (dataFrom s) s)) 1 8;

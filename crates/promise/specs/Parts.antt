@@ -16,6 +16,7 @@ pub record Settings : Type 0 where
   pub masks : List (List ℕ)
   -- the level of the TXEN pin
   pub pin : Bool
+  -- the mode that acts, and whether a sleep waits
   pub acting : ℕ
   pub waits : Bool
 

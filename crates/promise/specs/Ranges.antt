@@ -27,8 +27,8 @@ abbrev pub actsFit : ℕ → ℕ → Bool
 actsFit acting ctrl0 = pick (eqb (modeNamed ctrl0) sleep) (leb acting initialization) (eqb acting (modeNamed ctrl0))
 
 -- ERR has five bits of its own, MTAG two. Every other field may hold what its type can, and so may a message's bytes.
-unfoldable pub inRange : Device → Bool
-inRange d =
+unfoldable pub deviceInRange : Device → Bool
+deviceInRange d =
     queueFits (d .rx) &&
     (queueFits (d .tx) &&
     (queueFits (d .history) &&

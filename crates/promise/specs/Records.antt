@@ -5,7 +5,7 @@ use Prim.Native.Nat.{ℕ}
 use Rattle.counters.specs.declared.Counters.{Counters}
 use Rattle.promise.specs.Counting.{atZero}
 use Rattle.promise.specs.Frames.{Frame, blank}
-use Rattle.promise.specs.Ledger.{Ledger, cleared}
+use Rattle.promise.specs.Ledger.{Ledger, emptyLedger}
 use Rattle.promise.specs.Outbox.{Outbox, emptied}
 use Rattle.promise.specs.Settings.{Settings, atPowerUp}
 
@@ -18,7 +18,7 @@ pub record Records : Type 0 where
   pub kinds : List ℕ
   pub flags : List ℕ
   pub ledger : Ledger
-  -- the last frame that reached the filters since a reset
+  -- the last frame that reached the temporary buffer since a reset
   pub latest : Frame
   pub outbox : Outbox
 
@@ -29,7 +29,7 @@ start = record {
   ticks = 0;
   kinds = [];
   flags = [];
-  ledger = cleared;
+  ledger = emptyLedger;
   latest = blank;
   outbox = emptied;
 }

@@ -1,5 +1,5 @@
--- Devices that the promises rule out: the shipped one, but for one thing. `proofs/RuledOut` shows of each a sequence on
--- which it breaks its promise.
+-- Devices that the promises rule out: the shipped one, but for one thing. `proofs/RuledOut` shows of each a sequence,
+-- or a device, on which it breaks its promise.
 use mathlib.Core.Bool.{Bool, not, _&&_, _||_}
 use mathlib.Core.List.{List, [], _∷_, _++_, map}
 use Prim.Native.Nat.{ℕ, _+_, _-_, _%_, min}
@@ -130,8 +130,8 @@ boast (answered (Refused n)) = answered (Refused n)
 boast (answered Done) = answered (Arrived Queued)
 boast (answered (Arrived what)) = answered (Arrived what)
 
-abbrev pub ghost : Machine
-ghost = but (λ d i s. with-given s (boast (s .given)))
+abbrev pub boasts : Machine
+boasts = but (λ d i s. with-given s (boast (s .given)))
 
 -- one that answers as refused what it has done, with 0
 abbrev pub denial : Given → Given

@@ -20,7 +20,7 @@ fn tail(m: Message, from: usize) -> [u8; 16]
     s
 }
 
-// Bytes 1 and 4 to 16.
+// Bytes 1 and 4 to 16. Here and below the tail begins early, by the bytes that are then written over its start.
 fn without_time(m: Message) -> [u8; 16]
     ensures { λ r. ⌜ r ≡ cut m 1 3 ⌝ }
 {

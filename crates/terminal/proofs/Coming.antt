@@ -17,7 +17,7 @@ use Rattle.events.specs.declared.Event.the-variants.{GoodFrame}
 use Rattle.bus.specs.Pins.{pins}
 use Rattle.bus.specs.declared.types.Pins.{Pins}
 use Rattle.promise.specs.Sequence.{Input, spi, wire, shipped as step, number}
-use Rattle.promise.specs.Commands.{isCommand, lengthsOf, setsUp, rightLength}
+use Rattle.promise.specs.Commands.{isCommand, lengthsOf, setsUp, transferFits}
 use Rattle.promise.specs.Flags.{mchg}
 use Rattle.promise.specs.Frames.{Frame}
 use Rattle.promise.specs.Numbers.{findsNone, cannotBe, numberDue}
@@ -103,15 +103,15 @@ abbrev onRecords : Records
 onRecords = with-settings start (with-inte (with-mode atPowerUp 0 normal false) 0x40)
 
 enabled-book : book enabled ≡ with-settings start (with-inte atPowerUp 0x40)
-unfolding commanded numberDue isCommand lengthsOf rightLength setsUp findsNone
+unfolding commanded numberDue isCommand lengthsOf transferFits setsUp findsNone
 enabled-book = book-after (record { history = []; is = refl }) (0x1C ∷ 0x40 ∷ []) [] refl
 
 normally-book : book normally ≡ with-flags onRecords (mchg ∷ [])
-unfolding commanded numberDue isCommand lengthsOf rightLength setsUp findsNone modeNamed
+unfolding commanded numberDue isCommand lengthsOf transferFits setsUp findsNone modeNamed
 normally-book = book-after enabled (0x14 ∷ 0 ∷ []) [] (rw enabled-book) ∙ rw enabled-book
 
 pub on-book : book on ≡ onRecords
-unfolding commanded numberDue isCommand lengthsOf rightLength setsUp findsNone
+unfolding commanded numberDue isCommand lengthsOf transferFits setsUp findsNone
 on-book = book-after normally (0xDE ∷ []) (0 ∷ []) (rw normally-book) ∙ rw normally-book
 
 on-has : Has switchedOn onRecords

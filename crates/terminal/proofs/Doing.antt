@@ -15,7 +15,7 @@ use Rattle.chip.specs.declared.Device.{Device}
 use Rattle.chip.specs.State.{fresh, normal}
 use Rattle.host.specs.Transfer.{replyAfter}
 use Rattle.promise.specs.Sequence.{Input, spi, Given, replied, answered, shipped as step}
-use Rattle.promise.specs.Commands.{isCommand, lengthsOf, setsUp, rightLength}
+use Rattle.promise.specs.Commands.{isCommand, lengthsOf, setsUp, transferFits}
 use Rattle.promise.specs.Flags.{together}
 use Rattle.promise.specs.Ledger.{left, oldest, takes}
 use Rattle.promise.specs.Numbers.{findsNone, numberDue}
@@ -130,7 +130,7 @@ module _ {d : Device} (h : Reached d) (listens : Listens d) where
   askFlags = spi (0xDE ∷ []) (0 ∷ [])
 
   flags-pass : numberDue (situationOf r) askFlags ≡ 0
-  unfolding numberDue isCommand lengthsOf rightLength setsUp findsNone
+  unfolding numberDue isCommand lengthsOf transferFits setsUp findsNone
   flags-pass = rw acts
 
   pub flags-book : book (further h askFlags) ≡ with-flags r []
@@ -155,7 +155,7 @@ module _ {d : Device} (h : Reached d) (listens : Listens d) where
   askStatus = spi (0xE2 ∷ []) (0 ∷ [])
 
   status-pass : numberDue (situationOf r) askStatus ≡ 0
-  unfolding numberDue isCommand lengthsOf rightLength setsUp findsNone
+  unfolding numberDue isCommand lengthsOf transferFits setsUp findsNone
   status-pass = rw acts
 
   pub status-book : book (further h askStatus) ≡ r
@@ -186,7 +186,7 @@ module _ {d : Device} (h : Reached d) (listens : Listens d) where
     askMessage = spi (0x48 ∷ []) (replicate 14 0)
 
     message-pass : numberDue (situationOf r) askMessage ≡ 0
-    unfolding numberDue isCommand lengthsOf rightLength setsUp findsNone
+    unfolding numberDue isCommand lengthsOf transferFits setsUp findsNone
     message-pass = rw (acts, left-now, some)
 
     pub message-book : book (further h askMessage) ≡ with-ledger r (takes (r .ledger))

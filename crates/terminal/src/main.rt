@@ -94,6 +94,7 @@ fn read_status(d: Device) -> Status
     let mut statf = [0u8; 1];
     let o = host::transfer(d, &[READ_STATF], &mut statf);
     let device = o.device;
+    // RXFMTY is bit 1.
     let waits = statf[0] / 2 % 2 != 1;
     Status { device, waits }
 }

@@ -1,8 +1,8 @@
 // The message that 0x12 brings after its command byte: Table 2.
 ghost use mathlib.Core.Path.{_≡_};
 ghost use mathlib.Core.Bool.{true};
-ghost use Rattle.to_send.specs.ToSend.{isExtended, dataFrom, standardHeader, extendedHeader, headerToSend};
-ghost use Rattle.to_send.specs.ToSend.{rightLength, messageIn, messageOf, stored};
+ghost use Rattle.to_send.specs.ToSend.{isExtended, dataFrom, codeIn, standardHeader, extendedHeader};
+ghost use Rattle.to_send.specs.ToSend.{headerToSend, rightLength, messageIn, messageOf, stored};
 use frame::Header;
 
 pub struct ToSend {
@@ -30,25 +30,32 @@ fn data_from(s: &[u8]) -> usize
     if is_extended(s) { 6 } else { 4 }
 }
 
-fn standard(a: u8, b: u8, length: u8) -> Header
+// The upper half of the length byte is ignored.
+fn code_in(length: u8) -> u8
+    ensures { λ r. ⌜ r ≡ codeIn length ⌝ }
+{
+    length % 16
+}
+
+fn standard_header(a: u8, b: u8, length: u8) -> Header
     ensures { λ r. ⌜ r ≡ standardHeader a b length ⌝ }
 {
     Header {
         id: (a as u32) * 8 + ((b >> 5) % 8) as u32,
         extended: false,
         remote: (b >> 4) % 2 == 1,
-        code: length % 16,
+        code: code_in(length),
     }
 }
 
-fn extended(a: u8, b: u8, c: u8, d: u8, length: u8) -> Header
+fn extended_header(a: u8, b: u8, c: u8, d: u8, length: u8) -> Header
     ensures { λ r. ⌜ r ≡ extendedHeader a b c d length ⌝ }
 {
     Header {
         id: frame::id_from(a, b, c, d),
         extended: true,
         remote: d % 2 == 1,
-        code: length % 16,
+        code: code_in(length),
     }
 }
 
@@ -56,7 +63,7 @@ fn header_to_send(s: &[u8]) -> Header
     ensures { λ r. ⌜ r ≡ headerToSend (now (s .entry)) ⌝ }
 {
     if is_extended(s) {
-        extended(
+        extended_header(
             base::at(s, 1),
             base::at(s, 2),
             base::at(s, 3),
@@ -64,7 +71,7 @@ fn header_to_send(s: &[u8]) -> Header
             base::at(s, 5),
         )
     } else {
-        standard(base::at(s, 1), base::at(s, 2), base::at(s, 3))
+        standard_header(base::at(s, 1), base::at(s, 2), base::at(s, 3))
     }
 }
 

@@ -1,7 +1,8 @@
 // A transmission: when it may begin, its start, and each of its ends.
 ghost use mathlib.Core.Path.{_≡_};
-ghost use Rattle.transmit.specs.Transmit.{sends, canBegin, withoutTx1m, begun, stopped, aborted, cleared, stamped};
-ghost use Rattle.transmit.specs.Transmit.{ctrl1Begun, leftAlone, fifoAfter, countedCompletion, transmitted};
+ghost use Rattle.transmit.specs.Transmit.{sends, canBegin, withoutTx1m, ctrl1Begun, begun, stopped, disabled};
+ghost use Rattle.transmit.specs.Transmit.{aborted, leftAlone, cleared, stamped, fifoAfter, countedCompletion};
+ghost use Rattle.transmit.specs.Transmit.{transmitted};
 use chip::ALONE;
 use chip::Device;
 use chip::FIRST_IN_FIFO;
@@ -9,6 +10,7 @@ use chip::IDLE;
 use chip::LOOPBACK;
 use chip::MONITOR;
 use chip::NORMAL;
+use chip::Registers;
 use counters::Counters;
 use fifo::Fifo;
 use fifo::Message;
@@ -67,13 +69,23 @@ pub fn stopped(d: Device) -> Device
     Device { sending: IDLE, ..d }
 }
 
+// TXEN and TX1M are CTRL1's two highest bits.
+fn disabled(regs: Registers) -> Registers
+    ensures { λ r. ⌜ r ≡ disabled regs ⌝ }
+{
+    Registers {
+        ctrl1: regs.ctrl1 % 64,
+        ..regs
+    }
+}
+
 // 0x52.
 pub fn aborted(d: Device) -> Device
     ensures { λ r. ⌜ r ≡ aborted d ⌝ }
 {
-    let disabled = d.regs.ctrl1 % 64;
+    let regs = disabled(d.regs);
     let mut e = d;
-    e.regs.ctrl1 = disabled;
+    e.regs = regs;
     stopped(e)
 }
 
@@ -87,11 +99,11 @@ fn left_alone(sending: u8) -> u8
 pub fn cleared(d: Device) -> Device
     ensures { λ r. ⌜ r ≡ cleared d ⌝ }
 {
-    let ctrl1 = d.regs.ctrl1 % 64;
+    let regs = disabled(d.regs);
     let none = fifo::empty();
     let sending = left_alone(d.sending);
     let mut e = d;
-    e.regs.ctrl1 = ctrl1;
+    e.regs = regs;
     e.tx = none;
     e.sending = sending;
     e

@@ -78,7 +78,8 @@ fn normal() -> Device {
     quietly(chip::fresh(), &[0x14, 0x00])
 }
 
-// Normal mode with filtering on: every filter asks for identifier 0x123, and where that counts for a first data byte.
+// Normal mode with filtering on: every filter asks for identifier 0x123 and, in the bits that `counts` has, for this
+// first data byte.
 fn filtering(first: u8, counts: u8) -> Device {
     let mut d = chip::fresh();
     let filters = [0x62, 0x64, 0x66, 0x68, 0x6A, 0x6C, 0x6E, 0x72];
@@ -168,7 +169,7 @@ fn filtered_off() {
 }
 
 fn short_buffer() {
-    say(b"a read with too short a buffer, then one with room:");
+    say(b"a read with too short a buffer, then one long enough:");
     let d = scan(normal(), 0x123);
     let d = read_short(d);
     read(d, 0x48, 4);

@@ -17,7 +17,7 @@ fn at_both_doors(d: Device) {
     say_answer(a);
 }
 
-fn judged(range: &[u8], outside: Device, at_the_bound: Device) {
+fn on_both_sides(range: &[u8], outside: Device, at_the_bound: Device) {
     say(range);
     at_both_doors(outside);
     say(b",");
@@ -73,32 +73,32 @@ fn acting(ctrl0: u8, mode: u8) -> Device {
 }
 
 fn queues() {
-    judged(
+    on_both_sides(
         b"receive FIFO, first 8 and 7:",
         receiving(8, 0),
         receiving(7, 0),
     );
-    judged(
+    on_both_sides(
         b"receive FIFO, 9 and 8 messages:",
         receiving(0, 9),
         receiving(0, 8),
     );
-    judged(
+    on_both_sides(
         b"transmit FIFO, first 8 and 7:",
         sending(8, 0, 0),
         sending(7, 0, 0),
     );
-    judged(
+    on_both_sides(
         b"transmit FIFO, 9 and 8 messages:",
         sending(0, 9, 0),
         sending(0, 8, 0),
     );
-    judged(
+    on_both_sides(
         b"history, first 8 and 7:",
         remembering(8, 0),
         remembering(7, 0),
     );
-    judged(
+    on_both_sides(
         b"history, 9 and 8 entries:",
         remembering(0, 9),
         remembering(0, 8),
@@ -106,47 +106,47 @@ fn queues() {
 }
 
 fn registers() {
-    judged(b"ERR, 32 and 31:", showing(32, 0, 0), showing(31, 0, 0));
-    judged(b"FILHIT, 1 and 0:", showing(0, 1, 0), showing(0, 0, 0));
-    judged(b"FILHIT, 7 and 8:", showing(0, 7, 0), showing(0, 8, 0));
-    judged(b"FILHIT, 16 and 15:", showing(0, 16, 0), showing(0, 15, 0));
-    judged(b"MTAG, 4 and 3:", showing(0, 0, 4), showing(0, 0, 3));
-    judged(b"groups, 129 and 128:", counting(129), counting(128));
+    on_both_sides(b"ERR, 32 and 31:", showing(32, 0, 0), showing(31, 0, 0));
+    on_both_sides(b"FILHIT, 1 and 0:", showing(0, 1, 0), showing(0, 0, 0));
+    on_both_sides(b"FILHIT, 7 and 8:", showing(0, 7, 0), showing(0, 8, 0));
+    on_both_sides(b"FILHIT, 16 and 15:", showing(0, 16, 0), showing(0, 15, 0));
+    on_both_sides(b"MTAG, 4 and 3:", showing(0, 0, 4), showing(0, 0, 3));
+    on_both_sides(b"groups, 129 and 128:", counting(129), counting(128));
 }
 
 fn running_and_modes() {
-    judged(
+    on_both_sides(
         b"one runs as the first of 0 and of 1:",
         sending(0, 0, 1),
         sending(0, 1, 1),
     );
-    judged(b"what runs, 3 and 2:", sending(0, 0, 3), sending(0, 0, 2));
-    judged(
+    on_both_sides(b"what runs, 3 and 2:", sending(0, 0, 3), sending(0, 0, 2));
+    on_both_sides(
         b"MODE 000, acting 1 and 0:",
         acting(0x00, 1),
         acting(0x00, 0),
     );
-    judged(
+    on_both_sides(
         b"MODE 001, acting 0 and 1:",
         acting(0x20, 0),
         acting(0x20, 1),
     );
-    judged(
+    on_both_sides(
         b"MODE 010, acting 3 and 2:",
         acting(0x40, 3),
         acting(0x40, 2),
     );
-    judged(
+    on_both_sides(
         b"MODE 100, acting 3 and 4:",
         acting(0x80, 3),
         acting(0x80, 4),
     );
-    judged(
+    on_both_sides(
         b"MODE 111, acting 5 and 4:",
         acting(0xE0, 5),
         acting(0xE0, 4),
     );
-    judged(
+    on_both_sides(
         b"MODE 011, acting 5 and 4:",
         acting(0x60, 5),
         acting(0x60, 4),

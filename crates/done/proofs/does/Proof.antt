@@ -30,7 +30,7 @@ does-spec =
     (λ c. rw (c .before .match .keys9) (c .time-reset .ensures))
     (λ c. rw (c .before .match .keys10) (c .receive-cleared .ensures))
     (λ c. rw (c .before .match .keys11) (c .message-written .ensures))
-    (λ c. rw (c .before .match .keys12, c .write-ctrl0 .ensures, c .before .before .at .ensures))
+    (λ c. rw (c .before .match .keys12, c .ctrl0-written .ensures, c .before .before .at .ensures))
     (λ c. rw (c .before .match .keys13, c .rec-written .ensures, c .before .before .at .ensures))
     (λ c. rw (c .before .match .keys14, c .tec-written .ensures, c .before .before .at .ensures))
     (λ c. rw (c .before .before .match .keys15, c .filter-written .ensures, c .before .pattern .ensures))

@@ -5,14 +5,14 @@ use mathlib.Core.Bool.{true}
 use Prim.Native.Nat.{ℕ, _≤_, _+_, _*_, _-_}
 use native.Mathlib.Omega.{arith}
 use borrow.Author.Needs.{needs}
-use Rattle.filter.specs.Match.{agree, placeOf, countedOf, matches}
+use Rattle.filter.specs.Match.{agree, bitAtPlace, countedOf, matches}
 use Rattle.filter.proofs.Agree.{agree-failed}
 use Rattle.filter.proofs.Bytes.{byte-more}
 use Rattle.filter.proofs.matches.Statement.{statement}
 use Rattle.filter.proofs.matches.Tie as tie
 
 abbrev Inv-loop : tie.InvT-loop
-Inv-loop vector filter mask k₀ k = (k ≤ 6) × (agree (8 * k) (placeOf vector) (placeOf filter) (countedOf mask) ≡ true)
+Inv-loop vector filter mask k₀ k = (k ≤ 6) × (agree (8 * k) (bitAtPlace vector) (bitAtPlace filter) (countedOf mask) ≡ true)
 
 abbrev μ-loop : tie.MeasureT-loop
 μ-loop vector filter mask k₀ k = 6 - k
@@ -34,7 +34,7 @@ module _ (c : tie.After-byte-agrees Inv-loop μ-loop) where
   k = c .before .before .before .loop .k
 
   -- what the byte's test said, the places so far say
-  passed : agree (8 * k + 8) (placeOf vector) (placeOf filter) (countedOf mask) ≡ c .byte-agrees .result
+  passed : agree (8 * k + 8) (bitAtPlace vector) (bitAtPlace filter) (countedOf mask) ≡ c .byte-agrees .result
   passed =
       byte-more k vector filter mask
       ∙ rw (c .before .before .before .loop .inv .1, ← c .before .counted .ensures) (sym (c .byte-agrees .ensures))

@@ -12,7 +12,7 @@ returns c =
     let b = c .before .before .before .before .before in
     pick-yes _ _ _ _ _ (sym (b .before .before .is-extended .ensures) ∙ b .before .if1 .taken)
     (rw (
-      c .extended .ensures,
+      c .extended-header .ensures,
       b .at .ensures,
       c .before .before .before .before .at2 .ensures,
       c .before .before .before .at3 .ensures,
@@ -25,7 +25,7 @@ unfolding headerToSend
 returns-2 c =
     let b = c .before .before .before in
     pick-no _ _ _ _ _ (sym (b .before .before .is-extended .ensures) ∙ b .before .if1 .left)
-    (rw (c .standard .ensures, b .at6 .ensures, c .before .before .at7 .ensures, c .before .at8 .ensures))
+    (rw (c .standard-header .ensures, b .at6 .ensures, c .before .before .at7 .ensures, c .before .at8 .ensures))
 
 pub header-to-send-spec : {M : Type 1} → statement M
 header-to-send-spec =

@@ -6,7 +6,7 @@ use Rattle.transmit.proofs.aborted.Tie as tie
 
 returns : tie.Need-returns
 unfolding aborted
-returns c = rw (c .stopped .ensures)
+returns c = rw (c .stopped .ensures, c .before .disabled .ensures)
 
 pub aborted-spec : {M : Type 1} → statement M
-aborted-spec = tie.close (tie.spec (search needs) returns)
+aborted-spec = tie.close (tie.spec (search needs) (search needs) returns)

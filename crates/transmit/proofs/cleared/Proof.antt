@@ -6,7 +6,7 @@ use Rattle.transmit.proofs.cleared.Tie as tie
 
 returns : tie.Need-returns
 unfolding cleared
-returns c = rw (← c .before .before .empty .ensures, ← c .before .left-alone .ensures)
+returns c = rw (← c .before .before .disabled .ensures, ← c .before .empty .ensures, ← c .left-alone .ensures)
 
 pub cleared-spec : {M : Type 1} → statement M
-cleared-spec = tie.close (tie.spec (search needs) (search needs) returns)
+cleared-spec = tie.close (tie.spec (search needs) (search needs) (search needs) returns)

@@ -5,7 +5,7 @@ use Prim.Native.Nat.{_≤_, _-_}
 use lib.ListN.{length, drop}
 use Rattle.line.specs.declared.data.Data.{Data}
 use Rattle.line.specs.Words.{wordsOf}
-use Rattle.line.specs.Data.{dataOf, keepOf}
+use Rattle.line.specs.Data.{gatherOf, keepOf}
 use Rattle.line.proofs.Gathering.{gathered, gathered-all, gathered-end, gathered-on, gathered-off}
 use borrow.Author.Needs.{needs}
 use native.Mathlib.Omega.{arith}
@@ -13,7 +13,7 @@ use Rattle.line.proofs.data.gather.Statement.{statement}
 use Rattle.line.proofs.data.gather.Tie as tie
 
 abbrev Inv-loop : tie.InvT-loop
-Inv-loop s at d₀ i₀ d i = (i ≤ length s) × (gathered d (wordsOf (drop i s)) ≡ dataOf (wordsOf (drop at s)))
+Inv-loop s at d₀ i₀ d i = (i ≤ length s) × (gathered d (wordsOf (drop i s)) ≡ gatherOf (wordsOf (drop at s)))
 
 abbrev μ-loop : tie.MeasureT-loop
 μ-loop s at d₀ i₀ d i = length s - i

@@ -1,4 +1,4 @@
--- `line::words::comment` meets its contract. The loop's invariant: what is left has the rest of the run. Assumes
+-- `line::words::before_comment` meets its contract. The loop's invariant: what is left has the rest of the run. Assumes
 -- nothing.
 use Prim.Native.Nat.{_≤_, _-_, _+_}
 use mathlib.Core.Path.{_≡_, sym, _∙_, ap}
@@ -10,8 +10,8 @@ use Rattle.line.specs.Words.{isComment, beforeComment}
 use Rattle.line.proofs.Runs.{run-on, run-here}
 use borrow.Author.Needs.{needs}
 use native.Mathlib.Omega.{arith}
-use Rattle.line.proofs.words.comment.Statement.{statement}
-use Rattle.line.proofs.words.comment.Tie as tie
+use Rattle.line.proofs.words.before_comment.Statement.{statement}
+use Rattle.line.proofs.words.before_comment.Tie as tie
 
 abbrev Inv-loop : tie.InvT-loop
 Inv-loop s i₀ i = (i ≤ length s) × (i + beforeComment (drop i s) ≡ beforeComment s)
@@ -40,5 +40,5 @@ returns-2 c =
     let s = c .before .before .args .s .now in
     sym (add-zero (l .i)) ∙ rw (drop-of-length-le s {i = l .i} (omega arith)) at (l .inv .1)
 
-pub comment-spec : {M : Type 1} → statement M
-comment-spec = tie.close (tie.spec Inv-loop μ-loop loop-holds (search needs) returns (search needs) (search needs) loop-again returns-2)
+pub before-comment-spec : {M : Type 1} → statement M
+before-comment-spec = tie.close (tie.spec Inv-loop μ-loop loop-holds (search needs) returns (search needs) (search needs) loop-again returns-2)
