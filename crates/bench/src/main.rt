@@ -11,7 +11,7 @@ use host::Outcome;
 use libc::STDIN_FILENO;
 use libc::STDOUT_FILENO;
 
-// How many records there are, as far as there is room for results.
+// How many records there are, as far as their results fit.
 fn count(given: usize) -> usize
     ensures { λ r. ⌜ (r * 20 ≤ given) × (r ≤ 3000) ⌝ }
 {

@@ -65,12 +65,12 @@ unfoldable pub timeReset : Device → Device
 timeReset d = with-time d 0
 
 -- the message of 0x12, as it is kept
-abbrev pub brought : List ℕ → Message
-brought bytes = record { bytes = stored (messageOf (drop 1 bytes) .message) }
+abbrev pub messageBrought : List ℕ → Message
+messageBrought bytes = record { bytes = stored (messageOf (drop 1 bytes) .message) }
 
 -- 0x12: the message comes last in the transmit FIFO. Without a command byte there is none.
 unfoldable pub messageWritten : Device → List ℕ → Device
-messageWritten d bytes = pick (eqb (length bytes) 0) d (with-tx d (put (d .tx) (brought bytes)))
+messageWritten d bytes = pick (eqb (length bytes) 0) d (with-tx d (put (d .tx) (messageBrought bytes)))
 
 unfoldable pub filterWritten : Device → ℕ → Pattern → Device
 filterWritten d k p = with-filters d (set (d .filters) (k % 8) p)

@@ -10,7 +10,7 @@ use libc::STDIN_FILENO;
 use libc::STDOUT_FILENO;
 use lines::Held;
 
-// An answer is shorter than the room that is left past here.
+// An answer is shorter than what is left past here.
 const NEARLY_FULL: usize = 65000;
 
 // The run so far. The line that is being read, and the answers that wait to be written, stand in buffers beside it.
@@ -81,7 +81,7 @@ fn close(r: Run, line: &[u8], out: &mut [u8]) -> Run {
     }
 }
 
-// A complete line is answered, and the answers are written where there is little room left for more.
+// A complete line is answered, and the answers are written where little is left for more.
 fn closed(r: Run, line: &[u8], out: &mut [u8]) -> Run {
     let e = close(r, line, out);
     let used = e.used;

@@ -1,4 +1,4 @@
-// Text at a place of the buffer of answers. Each function gives back the place after it. What finds no room is left
+// Text at a place of the buffer of answers. Each function gives back the place after it. What doesn't fit is left
 // out; the buffer is written before that can happen.
 
 // A byte as it is.

@@ -38,6 +38,6 @@ noData w = record { good = false; bytes = head w; count = length w }
 unfoldable pub gatherOf : List (List ℕ) → Data
 gatherOf ws = pick (areBytes ws) (record { good = true; bytes = padded (kept ws); count = length (kept ws) }) (noData (firstOther ws))
 
--- one byte more, where there is room
+-- one byte more, as long as there are fewer than sixteen
 unfoldable pub keepOf : Data → ℕ → Data
 keepOf d b = pick (ltb (d .count) 16) (record { good = d .good; bytes = set (d .bytes) (d .count) b; count = d .count + 1 }) d

@@ -16,7 +16,7 @@ pub struct Data {
     pub count: usize,
 }
 
-// One byte more, where there is room.
+// One byte more, as long as there are fewer than sixteen.
 fn keep(d: Data, b: u8) -> Data
     ensures { λ r. ⌜ r ≡ keepOf d b ⌝ }
 {

@@ -19,7 +19,7 @@ use Rattle.commands.specs.declared.Row.{Row}
 use Rattle.commands.specs.Table.{rows, lookup}
 use Rattle.commands.specs.Verbs.{writeMessage}
 use Rattle.refused.specs.Refused.{findsFull, readsMessage, findsNone}
-use Rattle.done.specs.Done.{pattern, registersAfter, registerChanged, messageTaken, entryTaken, receiveCleared, timeReset, brought, messageWritten}
+use Rattle.done.specs.Done.{pattern, registersAfter, registerChanged, messageTaken, entryTaken, receiveCleared, timeReset, messageBrought, messageWritten}
 use Rattle.done.specs.Done.{filterWritten, maskWritten, recWritten, tecWritten, does}
 use Rattle.promise.specs.Counting.{recWritten as recMoved, tecWritten as tecMoved}
 use Rattle.promise.specs.Ledger.{takes}
@@ -76,7 +76,7 @@ module _ (d : Device) (r : Records) (h : Kept d r) (bytes : List ℕ) (some : eq
   written a =
       let s = drop 1 bytes in
       let fits = fits-same s ∙ a .2 in
-      let same-message : brought bytes ≡ ownMessage (messageIn s) = ap (λ (b : List ℕ). record { bytes = b }) (stored-own s fits) in
+      let same-message : messageBrought bytes ≡ ownMessage (messageIn s) = ap (λ (b : List ℕ). record { bytes = b }) (stored-own s fits) in
       rw (some, same-message) (h .0, h .1, h .2, h .3, written-boxed _ _ _ _ _ _ (h .4) (messageIn s) (written-sendable s fits) (a .0))
 
   filter : (k : ℕ) {A : Type 0} → A

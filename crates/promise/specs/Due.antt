@@ -19,7 +19,7 @@ use Rattle.promise.specs.Settings.{enables}
 -- what the table of numbers asks, by the records
 abbrev pub situationOf : Records → Situation
 situationOf r = record {
-  inRange = true;
+  deviceFits = true;
   acting = r .settings .acting;
   busoff = r .counters .busoff;
   enabled = enables (r .settings .ctrl1) (r .settings .pin);

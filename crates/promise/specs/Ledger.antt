@@ -1,5 +1,5 @@
--- The ledger: since the last clearing, the good frames that 01 accepts, as they arrived, and those that reads took. It
--- counts the room itself (demand 3; 01, Numbers given back).
+-- The ledger: since the last clearing, the good frames that 01 accepts, as they arrived, and those that reads took. How
+-- many wait is counted here (demand 3).
 use mathlib.Core.List.{List, [], _∷_, _++_}
 use Prim.Native.Nat.{ℕ, _-_}
 use lib.ListN.{length, getD}

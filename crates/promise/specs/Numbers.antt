@@ -27,7 +27,7 @@ use Rattle.promise.specs.Settings.{normal, loopback, sleep, initializati
 
 pub record Situation : Type 0 where
   -- every count, place and field is in its range
-  pub inRange : Bool
+  pub deviceFits : Bool
   pub acting : ℕ
   pub busoff : Bool
   -- by TXEN, TX1M or the pin
@@ -40,7 +40,7 @@ pub record Situation : Type 0 where
 
 abbrev pub situation : Device → Situation
 situation d = record {
-  inRange = deviceInRange d;
+  deviceFits = deviceInRange d;
   acting = d .acting;
   busoff = d .counters .busoff;
   enabled = enables (d .regs .ctrl1) (d .txenpin);
@@ -94,7 +94,7 @@ abbrev pub applies : Situation → Input → ℕ → Bool
 applies s (spi bytes buffer) n =
     let c = byte bytes 1 in
     among n
-    ((1, not (s .inRange)) ∷
+    ((1, not (s .deviceFits)) ∷
     (2, not (emptyTransfer bytes) && not (isCommand c)) ∷
     (3, emptyTransfer bytes || not (transferFits bytes)) ∷
     (4, ltb (length buffer) (lengthsOf c .out)) ∷
@@ -103,12 +103,12 @@ applies s (spi bytes buffer) n =
     (7, findsNone s c) ∷
     [])
     false
-applies s (wire e payload) n = among n ((1, not (s .inRange)) ∷ (8, cannotBe s e) ∷ []) false
+applies s (wire e payload) n = among n ((1, not (s .deviceFits)) ∷ (8, cannotBe s e) ∷ []) false
 
 -- of m numbers from k on, the first that applies; 0 if none does
 abbrev pub firstFrom : (ℕ → Bool) → ℕ → ℕ → ℕ
-firstFrom applies k zero = 0
-firstFrom applies k (suc m) = pick (applies k) k (firstFrom applies (suc k) m)
+firstFrom says k zero = 0
+firstFrom says k (suc m) = pick (says k) k (firstFrom says (suc k) m)
 
 -- "Checks run in rising order; the first that applies is given, and none otherwise."
 unfoldable pub numberDue : Situation → Input → ℕ
