@@ -9,15 +9,15 @@ use lib.ListN.{getD}
 use Rattle.base.specs.Bit.{bit}
 use Rattle.base.specs.Pick.{pick}
 
--- the bit at each of a byte's eight places, highest first, and at each of the 48
+-- the bit at place k of a byte's eight, the highest first
 abbrev pub bitFromTop : ℕ → ℕ → ℕ
 bitFromTop x k = bit (7 - k) x
 
+-- the bit at place k of the 48
 abbrev pub bitAtPlace : List ℕ → ℕ → ℕ
 bitAtPlace bytes k = bitFromTop (getD bytes (k / 8) 0) (k % 8)
 
--- "4b says which mask bits count": all but bit 0 of byte 4, place 31, which it doesn't name. 47 places
--- count.
+-- "4b says which mask bits count": all but bit 0 of byte 4, which it doesn't name. 47 places count.
 abbrev pub uncounted : ℕ
 uncounted = 31
 
