@@ -39,17 +39,11 @@ const ID15: u32 = 32768;
 
 const ID7: u32 = 128;
 
-const DATA_LENGTH: [usize; 16] = [0, 1, 2, 3, 4, 5, 6, 7, 8, 8, 8, 8, 8, 8, 8, 8];
-
 // How many data bytes a length code means. No frame has a code above 15; the rule's eight is said of those too.
 pub fn data_length(code: u8) -> usize
     ensures { λ r. ⌜ r ≡ dataLength code ⌝ }
 {
-    if code < 16 {
-        DATA_LENGTH[code as usize]
-    } else {
-        8
-    }
+    if code <= 8 { code as usize } else { 8 }
 }
 
 // How many data bytes a frame with this header has.
