@@ -3,19 +3,18 @@
 use crate::device::*;
 use crate::frame::{data_bytes, Frame, Received};
 
-/// A good frame as the bus tells it, possible or not.
-pub struct GoodFrame {
+/// A frame as it is told, possible or not.
+pub struct ToldFrame {
     pub identifier: u32,
     pub extended: bool,
     pub remote: bool,
     pub length_code: u32,
-    pub acknowledged: bool,
     pub data: Vec<u8>,
 }
 
 /// A kind of error is given as its bit in ERR.
 pub enum Event {
-    GoodFrame(GoodFrame),
+    GoodFrame { told: ToldFrame, acknowledged: bool },
     ReceiveError(u8),
     TransmitError { kind: u8, counted: bool },
     DominantAfterFlag,
@@ -39,8 +38,16 @@ pub struct Impossible;
 /// Bit 0 of byte 4 has no name in Table 4b.
 const COUNTED: [u8; 6] = [0xFF, 0xFF, 0xFF, 0xFE, 0xFF, 0xFF];
 
-impl GoodFrame {
-    fn possible(self) -> Result<Frame, Impossible> {
+/// 1000 to 1111 for the lowest filter of the set, 0000 where the set is empty.
+fn filhit_of(hits: u8) -> u8 {
+    match hits {
+        0 => 0,
+        _ => 8 | hits.trailing_zeros() as u8,
+    }
+}
+
+impl ToldFrame {
+    pub fn possible(self) -> Result<Frame, Impossible> {
         let bits = if self.extended { 29 } else { 11 };
         if self.identifier >> bits != 0 || self.length_code > 15 {
             return Err(Impossible);
@@ -62,8 +69,7 @@ impl GoodFrame {
 impl Device {
     pub fn event(&mut self, event: Event) -> Result<Option<Fate>, Impossible> {
         match event {
-            Event::GoodFrame(told) => {
-                let acknowledged = told.acknowledged;
+            Event::GoodFrame { told, acknowledged } => {
                 let frame = told.possible()?;
                 return Ok(Some(self.good_frame(frame, acknowledged)));
             }
@@ -136,23 +142,19 @@ impl Device {
     /// From the temporary buffer through the filters into the FIFO.
     fn receive(&mut self, frame: Frame) -> Fate {
         let filtering = self.ctrl1 & CTRL1_FILTON != 0;
-        let hit = if filtering {
-            self.lowest_match(&frame)
-        } else {
-            None
-        };
+        let hits = if filtering { self.hits(&frame) } else { 0 };
+        let filhit = filhit_of(hits);
         let received = Received {
             frame,
             time_tag: self.time_tag,
-            filter: hit,
+            filhit,
         };
         self.temporary = Some(received.clone());
         self.intf |= INTF_RXTMP;
-        self.filhit = hit.map_or(0, |n| 8 | n);
-        match hit {
-            Some(0) => self.intf |= INTF_F0MESS,
-            Some(1) => self.intf |= INTF_F1MESS,
-            None if filtering => return "A4",
+        match filhit {
+            0b1000 => self.intf |= INTF_F0MESS,
+            0b1001 => self.intf |= INTF_F1MESS,
+            0b0000 if filtering => return "A4",
             _ => {}
         }
         if self.receive_fifo.len() == ROOM {
@@ -163,13 +165,14 @@ impl Device {
         "Queued"
     }
 
-    fn lowest_match(&self, frame: &Frame) -> Option<u8> {
+    /// The set of filters that match, filter n as bit n, whether filtering is on or not.
+    pub fn hits(&self, frame: &Frame) -> u8 {
         let seen = frame.filter_bytes();
-        let matches = |&n: &u8| {
-            let (filter, mask) = (self.filters[usize::from(n)], self.masks[usize::from(n)]);
+        let matches = |n: usize| {
+            let (filter, mask) = (self.filters[n], self.masks[n]);
             (0..6).all(|i| (seen[i] ^ filter[i]) & mask[i] & COUNTED[i] == 0)
         };
-        (0..8).find(matches)
+        (0..8).fold(0, |set, n| set | u8::from(matches(n)) << n)
     }
 
     fn errors_possible(&self) -> Result<(), Impossible> {

@@ -76,8 +76,8 @@ fn simpler(line: &str) -> Vec<String> {
     for place in 0..words.len() {
         let simple = match (words[0], place) {
             (first, 0) if first.starts_with("spi/") => "spi",
-            ("spi", 2..) | ("frame", 6..) => "00",
-            ("frame", 1) => "0",
+            ("spi", 2..) | ("frame", 6..) | ("hits", 5..) => "00",
+            ("frame" | "hits", 1) => "0",
             ("ticks", 1) => "1",
             _ => continue,
         };

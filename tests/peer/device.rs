@@ -78,7 +78,6 @@ pub struct Device {
     pub running: Option<Running>,
     pub history: VecDeque<(u8, u16)>,
     pub time_tag: u16,
-    pub filhit: u8,
     pub mtag: u8,
     pub txen_pin: bool,
 }
@@ -108,7 +107,6 @@ impl Device {
             running: None,
             history: VecDeque::new(),
             time_tag: 0,
-            filhit: 0,
             mtag: 0,
             txen_pin: false,
         }
@@ -161,7 +159,8 @@ impl Device {
         } else {
             0b10
         };
-        self.filhit << 4 | self.mtag << 2 | tstat
+        let filhit = self.temporary.as_ref().map_or(0, |latest| latest.filhit);
+        filhit << 4 | self.mtag << 2 | tstat
     }
 
     /// ERR's upper bits follow the counters; TEC says nothing in bus off.

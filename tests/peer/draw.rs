@@ -65,6 +65,10 @@ pub fn draw(seed: u64, requests: usize) -> Vec<String> {
     } else {
         requests
     };
+    // A fresh device's filters match every frame, so they tell little before they are written.
+    if drawer.random.chance(50) {
+        drawer.set_filters();
+    }
     while drawer.script.len() < body {
         drawer.leave_dead_end();
         drawer.scene(&habits);
@@ -123,11 +127,13 @@ impl Drawer {
     }
 
     pub fn peek(&mut self) {
-        if self.random.chance(25) {
-            self.say("pins");
-        } else {
-            let code = self.random.pick(&PEEKS);
-            self.spi(&[code]);
+        match self.random.below(8) {
+            0 | 1 => self.say("pins"),
+            2 => self.ask_filters(),
+            _ => {
+                let code = self.random.pick(&PEEKS);
+                self.spi(&[code]);
+            }
         }
     }
 

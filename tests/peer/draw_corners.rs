@@ -117,12 +117,13 @@ impl Drawer {
             self.ctrl0(0x60);
             self.say_any(&["quiet", "activity", "spi D2"]);
         }
-        match self.random.below(13) {
+        match self.random.below(14) {
             0..=3 => self.locked_write(),
             4..=8 => self.command_and_look(),
-            9 => self.load_one(),
-            10 => self.one_arrival(),
-            11 => self.say_error("rxerr", ""),
+            9 => self.tune_filters(),
+            10 => self.load_one(),
+            11 => self.one_arrival(),
+            12 => self.say_error("rxerr", ""),
             _ => self.say_any(&["begin", "done", "ticks 9"]),
         }
         self.look_at(&[0xD2, 0xDE, 0xFA]);
@@ -162,7 +163,7 @@ impl Drawer {
     }
 
     fn command_and_look(&mut self) {
-        match self.random.below(14) {
+        match self.random.below(15) {
             0..=5 => {
                 let place = 2 * self.random.below(ANYWHERE.len() / 2);
                 self.command(ANYWHERE[place]);
@@ -181,6 +182,7 @@ impl Drawer {
             }
             11 => self.enable_pins(),
             12 => self.turn_txen_pin(),
+            13 => self.ask_filters(),
             _ => {
                 self.say_any(&["recessive", "quiet", "ticks 9"]);
                 self.look_at(&[0xDE, 0xF8, 0xFA]);

@@ -3,6 +3,7 @@
 use crate::commands::{Job, TABLE_1};
 use crate::device::{Mode, CTRL1_FILTON};
 use crate::draw::{Drawer, FIFO_READS};
+use crate::draw_text::Words;
 use crate::frame::{data_bytes, Frame};
 
 impl Drawer {
@@ -26,23 +27,24 @@ impl Drawer {
         frame
     }
 
-    pub fn say_frame(&mut self, frame: &Frame) {
-        let acknowledged = self.random.chance(75);
-        let data: String = frame.data.iter().map(|b| format!(" {:02X}", b)).collect();
-        self.say(&format!(
-            "frame {:X} {} {} {} {}{}",
-            frame.identifier,
-            if frame.extended { "ext" } else { "std" },
-            if frame.remote { "remote" } else { "data" },
-            frame.length_code,
-            if acknowledged { "ack" } else { "noack" },
-            data
-        ));
+    pub fn say_frame(&mut self, Words { header, data }: &Words) {
+        let acknowledged = self.random.pick(&["ack", "ack", "ack", "noack"]);
+        self.say(&format!("frame {} {}{}", header, acknowledged, data));
     }
 
     pub fn one_arrival(&mut self) {
         let frame = self.any_frame();
-        self.say_frame(&frame);
+        self.say_frame(&Words::of(&frame));
+    }
+
+    /// The question is open in every mode, and whether filtering is on or not.
+    pub fn ask_filters(&mut self) {
+        let Words { header, data } = match self.random.below(8) {
+            0 => self.impossible_frame(),
+            1 => Words::of(&self.any_frame()),
+            _ => Words::of(&self.frame_at_filter()),
+        };
+        self.say(&format!("hits {}{}", header, data));
     }
 
     pub fn arrivals(&mut self) {
@@ -53,6 +55,18 @@ impl Drawer {
                 self.peek();
             }
         }
+    }
+
+    /// Where filters are alike, several hit at once; which ones, their masks decide.
+    fn any_filter(&mut self, n: usize, alike: bool) -> [u8; 6] {
+        if alike && n > 0 && self.random.chance(50) {
+            let earlier = self.random.below(n);
+            return self.device().filters[earlier];
+        }
+        let mut bytes = self.any_frame().filter_bytes();
+        // The drawn bit in byte 4's lowest place must not count.
+        bytes[3] |= self.random.byte() & 1;
+        bytes
     }
 
     /// A weak mask lets nearly everything pass and hides the filters after it.
@@ -69,27 +83,37 @@ impl Drawer {
         mask
     }
 
+    /// Each filter and each mask with this chance.
+    fn write_filters(&mut self, percent: usize) {
+        let weak_from = self.random.pick(&[0, 3, 7, 8, 8, 8]);
+        let alike = self.random.chance(50);
+        for &(command, _, _, job) in TABLE_1 {
+            let written = match job {
+                Job::WriteFilter(n) => self.any_filter(n, alike),
+                Job::WriteMask(n) => self.any_mask(n >= weak_from),
+                _ => continue,
+            };
+            if self.random.chance(percent) {
+                let mut bytes = vec![command];
+                bytes.extend_from_slice(&written);
+                self.spi(&bytes);
+            }
+        }
+    }
+
+    /// A few are written anew, mostly before filtering is on, and the set is asked for before and after.
+    pub fn tune_filters(&mut self) {
+        self.ask_filters();
+        self.write_filters(10);
+        self.ask_filters();
+    }
+
     pub fn set_filters(&mut self) {
         if self.device().acting != Mode::Initialization && self.random.chance(95) {
             let mode = self.random.pick(&[0x80, 0x80, 0xA0, 0xE0]);
             self.ctrl0(mode);
         }
-        let weak_from = self.random.pick(&[0, 3, 7, 8, 8, 8]);
-        for &(command, _, _, job) in TABLE_1 {
-            let written = match job {
-                // The drawn bit in byte 4's lowest place must not count.
-                Job::WriteFilter(_) => {
-                    let mut bytes = self.any_frame().filter_bytes();
-                    bytes[3] |= self.random.byte() & 1;
-                    bytes
-                }
-                Job::WriteMask(n) => self.any_mask(n >= weak_from),
-                _ => continue,
-            };
-            let mut bytes = vec![command];
-            bytes.extend_from_slice(&written);
-            self.spi(&bytes);
-        }
+        self.write_filters(100);
         if self.random.chance(30) {
             let reads = TABLE_1.iter().filter(|&&(_, _, reply, _)| reply == 6);
             let codes: Vec<u8> = reads.map(|&(command, ..)| command).collect();
@@ -97,6 +121,9 @@ impl Drawer {
                 let code = self.random.pick(&codes);
                 self.spi(&[code]);
             }
+        }
+        for _ in 0..self.random.below(3) {
+            self.tune_filters();
         }
         let btr = self.random.pick(&[0x18, 0x1A]);
         let value = self.random.edge_byte();
@@ -173,11 +200,20 @@ impl Drawer {
             } else {
                 self.any_frame()
             };
-            self.say_frame(&frame);
-            let look = self.random.pick(looks);
-            if self.random.chance(60) {
-                self.spi(&[look]);
+            self.say_frame(&Words::of(&frame));
+            self.look_mostly(looks);
+            if self.random.chance(25) {
+                // It must leave no trace.
+                self.ask_filters();
+                self.look_mostly(looks);
             }
+        }
+    }
+
+    fn look_mostly(&mut self, looks: &[u8]) {
+        let look = self.random.pick(looks);
+        if self.random.chance(60) {
+            self.spi(&[look]);
         }
     }
 

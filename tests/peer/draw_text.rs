@@ -1,6 +1,7 @@
 //! Requests drawn without regard to the state, and the many ways to write one line.
 
 use crate::draw::Drawer;
+use crate::frame::Frame;
 use crate::random::Random;
 use crate::script::LONGEST_LINE;
 
@@ -23,8 +24,33 @@ const UNREADABLE: &str =
     frame|frame 123|frame 12G std data 0 ack|frame 123 STD data 0 ack|frame 123 std text 0 ack|\
     frame 123 std data x ack|frame 123 std data A ack|frame 123 std data 0|\
     frame 123 std data 1 ack 1|frame 123 std data 0 Ack|frame 123 std data 1 ack 00 ABC 1|\
-    frame 123456789ABCDEFG|frame 123456789ABCDEFGH|pins \"all\"|begin \\now|mr \u{7F}~!|\u{E9}";
+    frame 123456789ABCDEFG|frame 123456789ABCDEFGH|\
+    hits|hits 123|hits 12G std data 0|hits 123 ext|hits 123 Ext data 0|hits 123 std text 0|\
+    hits 123 std data|hits 123 std data A|hits 123 std remote 0 ack|hits 123 std data 1 noack 00|\
+    hits 123 std data 1 1|hits 123 std data 1 00 ABC 1|hit 123 std data 0|Hits 123 std data 0|\
+    hits123 std data 0|pins \"all\"|begin \\now|mr \u{7F}~!|\u{E9}";
 const EIGHT: &str = " 01 02 03 04 05 06 07 08";
+
+/// What `frame` and `hits` say of a frame: `frame` has the acknowledgement in between.
+pub struct Words {
+    pub header: String,
+    pub data: String,
+}
+
+impl Words {
+    pub fn of(frame: &Frame) -> Words {
+        Words {
+            header: format!(
+                "{:X} {} {} {}",
+                frame.identifier,
+                if frame.extended { "ext" } else { "std" },
+                if frame.remote { "remote" } else { "data" },
+                frame.length_code
+            ),
+            data: frame.data.iter().map(|b| format!(" {:02X}", b)).collect(),
+        }
+    }
+}
 
 /// Says the same in another way: blanks, comments, empty lines before it.
 pub fn decorate(random: &mut Random, line: &str) -> String {
@@ -39,54 +65,51 @@ pub fn decorate(random: &mut Random, line: &str) -> String {
 }
 
 impl Drawer {
-    /// Fields that don't fit each other, or a time at which it can't be.
-    pub fn impossible_event(&mut self) {
+    /// Fields that don't fit each other, but for a few at the edge that do.
+    pub fn impossible_frame(&mut self) -> Words {
         let frame = self.any_frame();
         let kind = if frame.extended { "ext" } else { "std" };
-        let data: String = frame.data.iter().map(|b| format!(" {:02X}", b)).collect();
-        let code = frame.length_code;
-        let limit = if frame.extended { 29 } else { 11 };
-        match self.random.below(8) {
+        let (code, data) = (frame.length_code, Words::of(&frame).data);
+        let (header, data) = match self.random.below(7) {
             0 => {
+                let limit = if frame.extended { 29 } else { 11 };
                 let above = (1u64 << limit) + self.random.pick(&[0, 0, 1, 1 << 40]);
-                self.say(&format!(
-                    "frame {:x} {} data {} ack{}",
-                    above, kind, code, data
-                ));
+                (format!("{:x} {} data {}", above, kind, code), data)
             }
-            1 => self.say(&format!("frame 0 {} data {} ack{} 00", kind, code, data)),
-            2 => self.say(&format!("frame 0 {} remote {} ack 00", kind, code)),
+            1 => (format!("0 {} data {}", kind, code), data + " 00"),
+            2 => (format!("0 {} remote {}", kind, code), " 00".to_string()),
             3 => {
                 let data = &data[..data.len().saturating_sub(3)];
-                self.say(&format!(
-                    "frame 0 {} data {} ack{}",
-                    kind,
-                    code.max(1),
-                    data
-                ));
+                let code = code.max(1);
+                (format!("0 {} data {}", kind, code), data.to_string())
             }
             4 => {
                 let code = self
                     .random
                     .pick(&["16", "17", "24", "256", "99999999999999999999"]);
-                self.say(&format!("frame 0 {} remote {} ack", kind, code));
+                (format!("0 {} remote {}", kind, code), String::new())
             }
             5 => {
                 let code = self.random.pick(&[16, 24, 264]);
-                self.say(&format!("frame 0 {} data {} ack{}", kind, code, EIGHT));
-            }
-            6 => {
-                let event = self
-                    .random
-                    .pick(&["begin", "done", "lost", "txerr bit counted"]);
-                self.say(event);
+                (format!("0 {} data {}", kind, code), EIGHT.to_string())
             }
             _ => {
                 let id = self
                     .random
                     .pick(&["FFFFFFFFFFFFFFFFFF", "100000000", "0000000800"]);
-                self.say(&format!("frame {} {} remote {} noack", id, kind, code));
+                (format!("{} {} remote {}", id, kind, code), String::new())
             }
+        };
+        Words { header, data }
+    }
+
+    /// An impossible frame, or a time at which an event can't be.
+    pub fn impossible_event(&mut self) {
+        if self.random.chance(12) {
+            self.say_any(&["begin", "done", "lost", "txerr bit counted"]);
+        } else {
+            let words = self.impossible_frame();
+            self.say_frame(&words);
         }
     }
 

@@ -23,7 +23,8 @@ pub struct Message {
 pub struct Received {
     pub frame: Frame,
     pub time_tag: u16,
-    pub filter: Option<u8>,
+    /// As MESSTAT shows it; byte 1 has its lower three bits.
+    pub filhit: u8,
 }
 
 pub fn data_bytes(length_code: u8, remote: bool) -> usize {
@@ -97,7 +98,7 @@ impl Received {
         let frame = &self.frame;
         let id = frame.aligned();
         let mut bytes = [0; 16];
-        bytes[0] = u8::from(frame.extended) << 7 | self.filter.unwrap_or(0);
+        bytes[0] = u8::from(frame.extended) << 7 | self.filhit & 0x07;
         bytes[1..3].copy_from_slice(&self.time_tag.to_be_bytes());
         bytes[3] = (id >> 21) as u8;
         bytes[4] = (id >> 13) as u8 & 0xE0 | (id >> 15) as u8 & 0x07;

@@ -1,5 +1,5 @@
-//! A second model of the register face, written from document 01 and datasheet 000 alone, and what
-//! it takes to hold it against the program `face`. See README.md.
+//! A second model of the register face, written from the documents alone, and what it takes to hold
+//! it against the program `face`. See README.md.
 
 mod bus;
 mod commands;

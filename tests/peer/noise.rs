@@ -91,14 +91,15 @@ impl Noise {
             2 => self.random.between(LONGEST_LINE - 3, LONGEST_LINE + 3),
             _ => self.random.below(4 * LONGEST_LINE),
         };
-        let (start, fill): (&[u8], &[u8]) = match self.random.below(8) {
+        let (start, fill): (&[u8], &[u8]) = match self.random.below(9) {
             0 => (b"\nspi D2", b" "),
             1 => (b"\nspi", b" 00"),
             2 => (b"\nticks ", b"7"),
             3 => (b"\nframe ", b"0"),
             4 => (b"\nframe 0 std data ", b"1"),
-            5 => (b"\npins #", b"#x"),
-            6 => (b"\n", b"\t\r "),
+            5 => (b"\nhits 0 ext data 8", b" 00"),
+            6 => (b"\npins #", b"#x"),
+            7 => (b"\n", b"\t\r "),
             _ => (b"\n", b"\0\xFF"),
         };
         let mut line = start.to_vec();

@@ -1,10 +1,11 @@
 //! From the words of one line to a request, or to the word that could not be read.
 
-use crate::bus::{Event, GoodFrame};
+use crate::bus::{Event, ToldFrame};
 
 pub enum Request {
     Transfer { bytes: Vec<u8>, reply_room: usize },
     Event(Event),
+    Hits(ToldFrame),
     Pins,
 }
 
@@ -22,7 +23,7 @@ type Read<'a, T> = Result<T, Unreadable<'a>>;
 /// A reply buffer has at most this many bytes.
 pub const REPLY_BUFFER: usize = 16;
 
-const REQUEST: Expected = "a request: spi, frame, an event or pins";
+const REQUEST: Expected = "a request: spi, frame, an event, hits or pins";
 const ROOM: Expected = "spi, or spi/ and a buffer size from 0 to 16";
 const END: Expected = "nothing more on this line";
 
@@ -47,7 +48,8 @@ pub fn read<'a>(words: &[&'a [u8]]) -> Read<'a, Request> {
     let first = next(&mut rest);
     let request = match first {
         b"pins" => Request::Pins,
-        b"frame" => Request::Event(frame(&mut rest)?),
+        b"frame" => Request::Event(good_frame(&mut rest)?),
+        b"hits" => Request::Hits(hits(&mut rest)?),
         _ if first.starts_with(b"spi") => {
             let reply_room = found(buffer_size(&first[3..]), ROOM, first)?;
             let bytes = bytes(&mut rest)?;
@@ -86,15 +88,28 @@ fn event<'a>(name: &'a [u8], rest: &mut Words<'a, '_>) -> Read<'a, Event> {
     })
 }
 
-fn frame<'a>(rest: &mut Words<'a, '_>) -> Read<'a, Event> {
-    Ok(Event::GoodFrame(GoodFrame {
+fn good_frame<'a>(rest: &mut Words<'a, '_>) -> Read<'a, Event> {
+    let mut told = header(rest)?;
+    let acknowledged = either(rest, b"noack", b"ack", "ack or noack")?;
+    told.data = bytes(rest)?;
+    Ok(Event::GoodFrame { told, acknowledged })
+}
+
+fn hits<'a>(rest: &mut Words<'a, '_>) -> Read<'a, ToldFrame> {
+    let mut told = header(rest)?;
+    told.data = bytes(rest)?;
+    Ok(told)
+}
+
+/// A frame's words without its data, since a good frame has another word before that.
+fn header<'a>(rest: &mut Words<'a, '_>) -> Read<'a, ToldFrame> {
+    Ok(ToldFrame {
         identifier: number(rest, 16, "an identifier in hex")?,
         extended: either(rest, b"std", b"ext", "std or ext")?,
         remote: either(rest, b"data", b"remote", "data or remote")?,
         length_code: number(rest, 10, "a length code in decimal")?,
-        acknowledged: either(rest, b"noack", b"ack", "ack or noack")?,
-        data: bytes(rest)?,
-    }))
+        data: Vec::new(),
+    })
 }
 
 /// True for the second of two words.

@@ -109,6 +109,13 @@ impl Session {
                 Ok(Some(fate)) => format!("0 {}", fate),
                 Err(_) => "8".to_string(),
             },
+            Request::Hits(told) => match told.possible() {
+                Ok(frame) => {
+                    let hits = self.device.hits(&frame);
+                    format!("0 {:02X} {}", hits, hits.count_ones())
+                }
+                Err(_) => "8".to_string(),
+            },
             Request::Pins => {
                 let [int, stat, gp1, gp2] = self.device.pins().map(u8::from);
                 format!("int={} stat={} gp1={} gp2={}", int, stat, gp1, gp2)

@@ -5,12 +5,14 @@ use Rattle.base.specs.Pick.{pick}
 use Rattle.chip.specs.declared.Device.{Device}
 use Rattle.chip.specs.Proper.{proper}
 use Rattle.receive.specs.declared.Arrival.{Arrival}
+use Rattle.receive.specs.declared.Brought.{Brought}
 use Rattle.receive.specs.declared.Arrival.the-variants.{Queued, A1, A2, A3, A4, A5}
+use Rattle.receive.specs.Receive.{hits}
 use Rattle.judged.specs.declared.Answer.{Answer}
 use Rattle.judged.specs.declared.Answer.the-variants.{Refused, Done, Arrived}
 use Rattle.events.specs.declared.Event.{Event}
 use Rattle.bus.specs.declared.types.Outcome.{Outcome}
-use Rattle.judged.specs.Judged.{impossible, said}
+use Rattle.judged.specs.Judged.{impossible, said, brought}
 use Rattle.changed.specs.Changed.{arrival, after}
 
 -- 01's number for each answer
@@ -33,16 +35,20 @@ valuesOf (Refused n) = []
 valuesOf Done = []
 valuesOf (Arrived what) = reasonOf what ∷ []
 
-unfoldable pub answer : Device → Event → List ℕ → Answer
-answer d e bytes =
+unfoldable pub answered : Device → Event → Brought → ℕ → Answer
+answered d e b set =
     pick (proper d)
-    (pick (impossible d e) (Refused 8) (said d e bytes))
+    (pick (impossible d e) (Refused 8) (said d b set))
     (Refused 1)
 
-abbrev pub outcome : Device → Event → List ℕ → Answer → Outcome
-outcome d e bytes (Refused n) = record { device = d; answer = Refused n }
-outcome d e bytes Done = record { device = after d e; answer = Done }
-outcome d e bytes (Arrived what) = record { device = arrival d e bytes what; answer = Arrived what }
+-- what the event brings, and the filters that this hits, decide the answer
+unfoldable pub answer : Device → Event → List ℕ → Answer
+answer d e bytes = let b = brought d e bytes in answered d e b (hits d b)
+
+abbrev pub outcome : Device → Event → Brought → ℕ → Answer → Outcome
+outcome d e b set (Refused n) = record { device = d; answer = Refused n }
+outcome d e b set Done = record { device = after d e; answer = Done }
+outcome d e b set (Arrived what) = record { device = arrival d b set what; answer = Arrived what }
 
 unfoldable pub event : Device → Event → List ℕ → Outcome
-event d e bytes = outcome d e bytes (answer d e bytes)
+event d e bytes = let b = brought d e bytes in outcome d e b (hits d b) (answer d e bytes)

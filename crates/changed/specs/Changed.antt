@@ -1,20 +1,19 @@
 -- What an event that isn't refused changes (01, Bus events, and Modes and filters).
 use mathlib.Core.Bool.{Bool, true, false}
-use mathlib.Core.List.{List}
 use Prim.Native.Nat.{ℕ, _+_, _%_}
 use lib.Dec.{eqb}
 use Rattle.base.specs.Pick.{pick}
 use Rattle.counters.specs.declared.Counters.{Counters}
 use Rattle.counters.specs.Rules.{receiveError, dominantBit, goodFrame, transmitError, elevenRecessive}
-use Rattle.frame.specs.declared.Header.{Header}
 use Rattle.chip.specs.declared.Device.{Device}
 use Rattle.chip.specs.Parts.{with-counters, with-time, with-txenpin}
 use Rattle.chip.specs.State.{normal, unlessMonitor, bor}
 use Rattle.receive.specs.declared.Arrival.{Arrival}
+use Rattle.receive.specs.declared.Brought.{Brought}
 use Rattle.receive.specs.declared.Arrival.the-variants.{Queued, A1, A2, A3, A4, A5}
 use Rattle.flags.specs.Flags.{busError}
 use Rattle.modes.specs.Modes.{busQuiet, busActivity}
-use Rattle.receive.specs.Receive.{arrived, ownHeader, ownData}
+use Rattle.receive.specs.Receive.{arrived}
 use Rattle.flags.specs.Reset.{reset}
 use Rattle.transmit.specs.Transmit.{begun, stopped, transmitted}
 use Rattle.events.specs.declared.ErrorKind.{ErrorKind}
@@ -36,9 +35,8 @@ errBit Bit = 16
 unfoldable pub countedFrame : Counters → ℕ → Counters
 countedFrame c acting = pick (eqb acting normal) (goodFrame c) c
 
--- "A4, A5 and Queued put the frame there", and REC moves
-unfoldable pub heard : Device → Header → List ℕ → Arrival → Device
-heard d h bytes what = with-counters (arrived d h bytes what) (countedFrame (d .counters) (d .acting))
+unfoldable pub heard : Device → Device
+heard d = with-counters d (countedFrame (d .counters) (d .acting))
 
 -- "A1 to A3 leave the temporary buffer alone. A4, A5 and Queued put the frame there."
 unfoldable pub reachesTemporary : Arrival → Bool
@@ -48,11 +46,6 @@ reachesTemporary A2 = false
 reachesTemporary A3 = false
 reachesTemporary A4 = true
 reachesTemporary A5 = true
-
--- "With WAKEUP set, a bus activity event or a good frame in sleep brings monitor mode": a frame that isn't taken is
--- activity
-unfoldable pub frameAfter : Device → Header → List ℕ → Arrival → Device
-frameAfter d h bytes what = pick (reachesTemporary what) (heard d h bytes what) (busActivity d)
 
 -- "Receive error: REC + 1."
 unfoldable pub countedReceiveError : Counters → ℕ → Counters
@@ -78,10 +71,6 @@ unfoldable pub transmitErrorMet : Device → ErrorKind → Bool → Device
 transmitErrorMet d kind counted =
     stopped (with-counters (busError d (errBit kind)) (countedTransmitError (d .counters) (d .acting) counted))
 
--- in loopback the own message arrives, with the time tag that the history gets too
-unfoldable pub echoed : Device → Arrival → Device
-echoed d what = transmitted (arrived d (ownHeader d) (ownData d) what)
-
 -- "The 128th group of eleven recessive bits ends bus off, both counters at 0, under 000's rule for automatic recovery."
 unfoldable pub recessiveMet : Device → Device
 recessiveMet d = with-counters d (elevenRecessive (d .counters) (bor d))
@@ -94,22 +83,14 @@ ticked d count = with-time d ((d .time + count) % 65536)
 unfoldable pub pinSet : Device → Bool → Device
 pinSet d level = with-txenpin d level
 
--- an event whose answer is an arrival: a good frame, or in loopback a completion
-unfoldable pub arrival : Device → Event → List ℕ → Arrival → Device
-arrival d (GoodFrame h acknowledged given) bytes what = frameAfter d h bytes what
-arrival d Completed bytes what = echoed d what
-arrival d (ReceiveError kind) bytes what = d
-arrival d DominantBit bytes what = d
-arrival d (TransmitError kind counted) bytes what = d
-arrival d Begun bytes what = d
-arrival d ArbitrationLost bytes what = d
-arrival d ElevenRecessive bytes what = d
-arrival d BusQuiet bytes what = d
-arrival d BusActivity bytes what = d
-arrival d (Ticks count) bytes what = d
-arrival d (TxenPin level) bytes what = d
-arrival d MrPin bytes what = d
-arrival d Unknown bytes what = d
+-- a frame from the bus is counted; our own is sent, and its history entry has the time tag that it arrived with
+unfoldable pub taken : Device → Bool → Device
+taken d own = pick own (transmitted d) (heard d)
+
+-- An event whose answer is an arrival. "With WAKEUP set, a bus activity event or a good frame in sleep brings monitor
+-- mode": a frame that isn't taken is activity.
+unfoldable pub arrival : Device → Brought → ℕ → Arrival → Device
+arrival d b set what = pick (reachesTemporary what) (taken (arrived d b set what) (b .own)) (busActivity d)
 
 -- an event that is done; a good frame's answer is an arrival
 unfoldable pub after : Device → Event → Device

@@ -1,16 +1,16 @@
 // What an event that isn't refused changes.
 ghost use mathlib.Core.Path.{_≡_};
 ghost use Prim.Native.Nat.{_+_, _%_};
-ghost use Rattle.changed.specs.Changed.{errBit, countedFrame, heard, reachesTemporary, frameAfter, countedReceiveError, receiveErrorMet};
-ghost use Rattle.changed.specs.Changed.{dominantMet, countedTransmitError, transmitErrorMet, echoed, recessiveMet, ticked, pinSet, arrival, after};
+ghost use Rattle.changed.specs.Changed.{errBit, countedFrame, heard, taken, reachesTemporary, countedReceiveError, receiveErrorMet};
+ghost use Rattle.changed.specs.Changed.{dominantMet, countedTransmitError, transmitErrorMet, recessiveMet, ticked, pinSet, arrival, after};
 use chip::Device;
 use chip::MONITOR;
 use chip::NORMAL;
 use counters::Counters;
 use events::ErrorKind;
 use events::Event;
-use frame::Header;
 use receive::Arrival;
+use receive::Brought;
 
 // ERR's bits 0 to 4.
 const STUFERR: u8 = 1;
@@ -46,17 +46,6 @@ fn counted_frame(c: Counters, acting: u8) -> Counters
     }
 }
 
-// A frame that the mode takes, from the bus.
-fn heard(d: Device, h: Header, payload: [u8; 8], what: Arrival) -> Device
-    ensures { λ r. ⌜ r ≡ heard d h payload what ⌝ }
-{
-    let pair = d.counters;
-    let c = counted_frame(pair, d.acting);
-    let mut e = receive::arrived(d, h, payload, what);
-    e.counters = c;
-    e
-}
-
 // Whether a good frame reaches the temporary buffer.
 fn reaches_temporary(what: Arrival) -> bool
     ensures { λ r. ⌜ r ≡ reachesTemporary what ⌝ }
@@ -68,18 +57,6 @@ fn reaches_temporary(what: Arrival) -> bool
         Arrival::A3 => false,
         Arrival::A4 => true,
         Arrival::A5 => true,
-    }
-}
-
-// A good frame, by what became of it. One that isn't taken is still activity on the bus, and wakes a sleeping device if
-// WAKEUP is set.
-fn frame_after(d: Device, h: Header, payload: [u8; 8], what: Arrival) -> Device
-    ensures { λ r. ⌜ r ≡ frameAfter d h payload what ⌝ }
-{
-    if reaches_temporary(what) {
-        heard(d, h, payload, what)
-    } else {
-        modes::bus_activity(d)
     }
 }
 
@@ -142,16 +119,6 @@ fn transmit_error_met(d: Device, kind: ErrorKind, counted: bool) -> Device
     transmit::stopped(e)
 }
 
-// A completion in loopback: the message arrives first, then it is sent.
-fn echoed(d: Device, what: Arrival) -> Device
-    ensures { λ r. ⌜ r ≡ echoed d what ⌝ }
-{
-    let own = receive::own_frame(d);
-    let payload = own.payload;
-    let e = receive::arrived(d, own.header, payload, what);
-    transmit::transmitted(e)
-}
-
 fn recessive_met(d: Device) -> Device
     ensures { λ r. ⌜ r ≡ recessiveMet d ⌝ }
 {
@@ -185,25 +152,37 @@ fn pin_set(d: Device, level: bool) -> Device
     e
 }
 
-// An event that brought a frame, by what became of it.
-pub fn arrival(d: Device, e: Event, payload: [u8; 8], what: Arrival) -> Device
-    ensures { λ r. ⌜ r ≡ arrival d e payload what ⌝ }
+// A frame that was taken, from the bus.
+fn heard(d: Device) -> Device
+    ensures { λ r. ⌜ r ≡ heard d ⌝ }
 {
-    match e {
-        Event::GoodFrame(h, _, _) => frame_after(d, h, payload, what),
-        Event::Completed => echoed(d, what),
-        Event::ReceiveError(_) => d,
-        Event::DominantBit => d,
-        Event::TransmitError(_, _) => d,
-        Event::Begun => d,
-        Event::ArbitrationLost => d,
-        Event::ElevenRecessive => d,
-        Event::BusQuiet => d,
-        Event::BusActivity => d,
-        Event::Ticks(_) => d,
-        Event::TxenPin(_) => d,
-        Event::MrPin => d,
-        Event::Unknown => d,
+    let pair = d.counters;
+    let c = counted_frame(pair, d.acting);
+    let mut e = d;
+    e.counters = c;
+    e
+}
+
+// A frame that was taken: our own message arrives first, then it is sent.
+fn taken(d: Device, own: bool) -> Device
+    ensures { λ r. ⌜ r ≡ taken d own ⌝ }
+{
+    if own {
+        transmit::transmitted(d)
+    } else {
+        heard(d)
+    }
+}
+
+// An event that brought a frame, by the filters that it hits and what became of it. One that isn't taken is still
+// activity on the bus, and wakes a sleeping device if WAKEUP is set.
+pub fn arrival(d: Device, b: Brought, hits: u8, what: Arrival) -> Device
+    ensures { λ r. ⌜ r ≡ arrival d b hits what ⌝ }
+{
+    if reaches_temporary(what) {
+        taken(receive::arrived(d, b, hits, what), b.own)
+    } else {
+        modes::bus_activity(d)
     }
 }
 

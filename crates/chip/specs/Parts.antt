@@ -11,37 +11,37 @@ use Rattle.chip.specs.declared.Pattern.{Pattern}
 use Rattle.chip.specs.declared.Registers.{Registers}
 
 abbrev pub with-ctrl0 : Registers → ℕ → Registers
-with-ctrl0 r v = record { ctrl0 = v; ctrl1 = r .ctrl1; btr0 = r .btr0; btr1 = r .btr1; inte = r .inte; statfe = r .statfe; gpine = r .gpine; intf = r .intf; errs = r .errs; filhit = r .filhit; mtag = r .mtag }
+with-ctrl0 r v = record { ctrl0 = v; ctrl1 = r .ctrl1; btr0 = r .btr0; btr1 = r .btr1; inte = r .inte; statfe = r .statfe; gpine = r .gpine; intf = r .intf; errs = r .errs; hits = r .hits; mtag = r .mtag }
 
 abbrev pub with-ctrl1 : Registers → ℕ → Registers
-with-ctrl1 r v = record { ctrl0 = r .ctrl0; ctrl1 = v; btr0 = r .btr0; btr1 = r .btr1; inte = r .inte; statfe = r .statfe; gpine = r .gpine; intf = r .intf; errs = r .errs; filhit = r .filhit; mtag = r .mtag }
+with-ctrl1 r v = record { ctrl0 = r .ctrl0; ctrl1 = v; btr0 = r .btr0; btr1 = r .btr1; inte = r .inte; statfe = r .statfe; gpine = r .gpine; intf = r .intf; errs = r .errs; hits = r .hits; mtag = r .mtag }
 
 abbrev pub with-btr0 : Registers → ℕ → Registers
-with-btr0 r v = record { ctrl0 = r .ctrl0; ctrl1 = r .ctrl1; btr0 = v; btr1 = r .btr1; inte = r .inte; statfe = r .statfe; gpine = r .gpine; intf = r .intf; errs = r .errs; filhit = r .filhit; mtag = r .mtag }
+with-btr0 r v = record { ctrl0 = r .ctrl0; ctrl1 = r .ctrl1; btr0 = v; btr1 = r .btr1; inte = r .inte; statfe = r .statfe; gpine = r .gpine; intf = r .intf; errs = r .errs; hits = r .hits; mtag = r .mtag }
 
 abbrev pub with-btr1 : Registers → ℕ → Registers
-with-btr1 r v = record { ctrl0 = r .ctrl0; ctrl1 = r .ctrl1; btr0 = r .btr0; btr1 = v; inte = r .inte; statfe = r .statfe; gpine = r .gpine; intf = r .intf; errs = r .errs; filhit = r .filhit; mtag = r .mtag }
+with-btr1 r v = record { ctrl0 = r .ctrl0; ctrl1 = r .ctrl1; btr0 = r .btr0; btr1 = v; inte = r .inte; statfe = r .statfe; gpine = r .gpine; intf = r .intf; errs = r .errs; hits = r .hits; mtag = r .mtag }
 
 abbrev pub with-inte : Registers → ℕ → Registers
-with-inte r v = record { ctrl0 = r .ctrl0; ctrl1 = r .ctrl1; btr0 = r .btr0; btr1 = r .btr1; inte = v; statfe = r .statfe; gpine = r .gpine; intf = r .intf; errs = r .errs; filhit = r .filhit; mtag = r .mtag }
+with-inte r v = record { ctrl0 = r .ctrl0; ctrl1 = r .ctrl1; btr0 = r .btr0; btr1 = r .btr1; inte = v; statfe = r .statfe; gpine = r .gpine; intf = r .intf; errs = r .errs; hits = r .hits; mtag = r .mtag }
 
 abbrev pub with-statfe : Registers → ℕ → Registers
-with-statfe r v = record { ctrl0 = r .ctrl0; ctrl1 = r .ctrl1; btr0 = r .btr0; btr1 = r .btr1; inte = r .inte; statfe = v; gpine = r .gpine; intf = r .intf; errs = r .errs; filhit = r .filhit; mtag = r .mtag }
+with-statfe r v = record { ctrl0 = r .ctrl0; ctrl1 = r .ctrl1; btr0 = r .btr0; btr1 = r .btr1; inte = r .inte; statfe = v; gpine = r .gpine; intf = r .intf; errs = r .errs; hits = r .hits; mtag = r .mtag }
 
 abbrev pub with-gpine : Registers → ℕ → Registers
-with-gpine r v = record { ctrl0 = r .ctrl0; ctrl1 = r .ctrl1; btr0 = r .btr0; btr1 = r .btr1; inte = r .inte; statfe = r .statfe; gpine = v; intf = r .intf; errs = r .errs; filhit = r .filhit; mtag = r .mtag }
+with-gpine r v = record { ctrl0 = r .ctrl0; ctrl1 = r .ctrl1; btr0 = r .btr0; btr1 = r .btr1; inte = r .inte; statfe = r .statfe; gpine = v; intf = r .intf; errs = r .errs; hits = r .hits; mtag = r .mtag }
 
 abbrev pub with-intf : Registers → ℕ → Registers
-with-intf r v = record { ctrl0 = r .ctrl0; ctrl1 = r .ctrl1; btr0 = r .btr0; btr1 = r .btr1; inte = r .inte; statfe = r .statfe; gpine = r .gpine; intf = v; errs = r .errs; filhit = r .filhit; mtag = r .mtag }
+with-intf r v = record { ctrl0 = r .ctrl0; ctrl1 = r .ctrl1; btr0 = r .btr0; btr1 = r .btr1; inte = r .inte; statfe = r .statfe; gpine = r .gpine; intf = v; errs = r .errs; hits = r .hits; mtag = r .mtag }
 
 abbrev pub with-errs : Registers → ℕ → Registers
-with-errs r v = record { ctrl0 = r .ctrl0; ctrl1 = r .ctrl1; btr0 = r .btr0; btr1 = r .btr1; inte = r .inte; statfe = r .statfe; gpine = r .gpine; intf = r .intf; errs = v; filhit = r .filhit; mtag = r .mtag }
+with-errs r v = record { ctrl0 = r .ctrl0; ctrl1 = r .ctrl1; btr0 = r .btr0; btr1 = r .btr1; inte = r .inte; statfe = r .statfe; gpine = r .gpine; intf = r .intf; errs = v; hits = r .hits; mtag = r .mtag }
 
-abbrev pub with-filhit : Registers → ℕ → Registers
-with-filhit r v = record { ctrl0 = r .ctrl0; ctrl1 = r .ctrl1; btr0 = r .btr0; btr1 = r .btr1; inte = r .inte; statfe = r .statfe; gpine = r .gpine; intf = r .intf; errs = r .errs; filhit = v; mtag = r .mtag }
+abbrev pub with-hits : Registers → ℕ → Registers
+with-hits r v = record { ctrl0 = r .ctrl0; ctrl1 = r .ctrl1; btr0 = r .btr0; btr1 = r .btr1; inte = r .inte; statfe = r .statfe; gpine = r .gpine; intf = r .intf; errs = r .errs; hits = v; mtag = r .mtag }
 
 abbrev pub with-mtag : Registers → ℕ → Registers
-with-mtag r v = record { ctrl0 = r .ctrl0; ctrl1 = r .ctrl1; btr0 = r .btr0; btr1 = r .btr1; inte = r .inte; statfe = r .statfe; gpine = r .gpine; intf = r .intf; errs = r .errs; filhit = r .filhit; mtag = v }
+with-mtag r v = record { ctrl0 = r .ctrl0; ctrl1 = r .ctrl1; btr0 = r .btr0; btr1 = r .btr1; inte = r .inte; statfe = r .statfe; gpine = r .gpine; intf = r .intf; errs = r .errs; hits = r .hits; mtag = v }
 
 abbrev pub with-regs : Device → Registers → Device
 with-regs d v = record { regs = v; counters = d .counters; filters = d .filters; masks = d .masks; rx = d .rx; temp = d .temp; tx = d .tx; buffer = d .buffer; sending = d .sending; history = d .history; time = d .time; txenpin = d .txenpin; acting = d .acting }

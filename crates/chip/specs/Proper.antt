@@ -1,6 +1,6 @@
 -- When a device is one that the chip can be in (01, Numbers given back: 1 is given for "a count, place or field
 -- outside its range").
-use mathlib.Core.Bool.{Bool, _&&_, _||_}
+use mathlib.Core.Bool.{Bool, _&&_}
 use Prim.Native.Nat.{ℕ}
 use lib.Dec.{eqb, leb}
 use Rattle.base.specs.Pick.{pick}
@@ -9,13 +9,9 @@ use Rattle.chip.specs.declared.Device.{Device}
 use Rattle.chip.specs.declared.Registers.{Registers}
 use Rattle.chip.specs.State.{modeOf, sleep, initialization, firstInFifo, alone}
 
--- FILHIT is 0000, or 1000 to 1111.
-abbrev pub filhitFits : ℕ → Bool
-filhitFits n = eqb n 0 || (leb 8 n && leb n 15)
-
 -- ERR has five bits of its own, MTAG two. Every other register may hold any byte.
 unfoldable pub registersInRange : Registers → Bool
-registersInRange r = leb (r .errs) 31 && (leb (r .mtag) 3 && filhitFits (r .filhit))
+registersInRange r = leb (r .errs) 31 && leb (r .mtag) 3
 
 -- A message that runs as the first in the transmit FIFO is in it.
 abbrev pub sendingFits : ℕ → ℕ → Bool

@@ -60,7 +60,7 @@ freshRegisters = record {
   gpine = 0;
   intf = 0;
   errs = 0;
-  filhit = 0;
+  hits = 0;
   mtag = 0;
 }
 

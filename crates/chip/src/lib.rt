@@ -42,8 +42,9 @@ pub struct Registers {
     pub intf: u8,
     // ERR's bits 4 to 0; the upper three are drawn from the counters.
     pub errs: u8,
-    // MESSTAT's FILHIT3..0 and MTAG1..0.
-    pub filhit: u8,
+    // The filters that the latest frame hit, a bit for each: MESSTAT shows the lowest as FILHIT3..0.
+    pub hits: u8,
+    // MESSTAT's MTAG1..0.
     pub mtag: u8,
 }
 
@@ -85,7 +86,7 @@ pub fn fresh() -> Device
         gpine: 0,
         intf: 0,
         errs: 0,
-        filhit: 0,
+        hits: 0,
         mtag: 0,
     };
     let counters = Counters {
@@ -202,10 +203,7 @@ pub fn bank(patterns: [Pattern; 8]) -> [[u8; 6]; 8]
 fn registers_in_range(r: Registers) -> bool
     ensures { λ r'. ⌜ r' ≡ registersInRange r ⌝ }
 {
-    let errs = r.errs <= 31;
-    let mtag = r.mtag <= 3;
-    let filhit = (r.filhit == 0) | ((8 <= r.filhit) & (r.filhit <= 15));
-    errs & mtag & filhit
+    (r.errs <= 31) & (r.mtag <= 3)
 }
 
 fn sending_in_range(d: Device) -> bool

@@ -7,6 +7,7 @@ use Rattle.base.specs.Bit.{isSet}
 use Rattle.base.specs.Pick.{pick, flag}
 use Rattle.levels.specs.Levels.{errw, errp, levelBits}
 use Rattle.fifo.specs.Queue.{full, isEmpty}
+use Rattle.filter.specs.Hits.{filhit}
 use Rattle.chip.specs.declared.Device.{Device}
 use Rattle.chip.specs.State.{enabled, idle}
 
@@ -29,9 +30,9 @@ tstat d =
     (pick (enabled d) (pick (isEmpty (d .tx)) 1 2) 0)
     3
 
--- MESSTAT: FILHIT3..0, MTAG1..0, TSTAT1..0
+-- MESSTAT: FILHIT3..0, of the filters that the latest frame hit, MTAG1..0, TSTAT1..0
 unfoldable pub messtat : Device → ℕ
-messtat d = d .regs .filhit % 16 * 16 + d .regs .mtag % 4 * 4 + tstat d
+messtat d = filhit (d .regs .hits) * 16 + d .regs .mtag % 4 * 4 + tstat d
 
 -- two registers share a set bit
 abbrev pub share : ℕ → ℕ → Bool

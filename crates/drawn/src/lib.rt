@@ -48,7 +48,7 @@ fn tstat(d: Device) -> u8
 pub fn messtat(d: Device) -> u8
     ensures { λ r. ⌜ r ≡ messtat d ⌝ }
 {
-    d.regs.filhit % 16 * 16 + d.regs.mtag % 4 * 4 + tstat(d)
+    filter::filhit(d.regs.hits) * 16 + d.regs.mtag % 4 * 4 + tstat(d)
 }
 
 // Whether two bytes share a set bit.

@@ -2,11 +2,13 @@
 use crate::device;
 use crate::text::bytes;
 use crate::text::decimal;
+use crate::text::hex;
 use crate::text::pin;
 use crate::text::raw;
 use crate::text::text;
 use chip::Device;
 use events::Event;
+use frame::Header;
 use judged::Answer;
 use line::Asked;
 use line::Expected;
@@ -24,7 +26,7 @@ fn expected(out: &mut [u8], at: usize, e: Expected) -> usize {
         Expected::Request => text(
             out,
             at,
-            b"spi, frame, rxerr, txerr, dominant, begin, done, lost, recessive, quiet, activity, mr, ticks, txen or pins",
+            b"spi, frame, hits, rxerr, txerr, dominant, begin, done, lost, recessive, quiet, activity, mr, ticks, txen or pins",
         ),
         Expected::Byte => text(out, at, b"a byte as two hex digits, as 0A"),
         Expected::Lent => text(out, at, b"a reply buffer of 0 to 16 bytes, as spi/14"),
@@ -137,6 +139,26 @@ fn pins(d: Device, out: &mut [u8], at: usize) -> usize {
     raw(out, n, b'\n')
 }
 
+// A set of filters as a byte, and how many it has.
+fn set(out: &mut [u8], at: usize, filters: u8) -> usize {
+    let n = raw(out, at, b' ');
+    let n = hex(out, n, filters);
+    let n = raw(out, n, b' ');
+    decimal(out, n, filter::how_many(filters) as u64)
+}
+
+fn hits(d: Device, h: Header, given: usize, data: [u8; 16], out: &mut [u8], at: usize) -> usize {
+    let found = device::hits(d, h, given, data);
+    let number = found.number;
+    let n = decimal(out, at, number as u64);
+    if number == 0 {
+        let n = set(out, n, found.set);
+        raw(out, n, b'\n')
+    } else {
+        raw(out, n, b'\n')
+    }
+}
+
 // A blank line has no answer.
 pub(crate) fn answer(d: Device, line: &[u8], number: u64, out: &mut [u8], at: usize) -> Turn {
     let l = line::read_line(line);
@@ -152,6 +174,10 @@ pub(crate) fn answer(d: Device, line: &[u8], number: u64, out: &mut [u8], at: us
         Asked::Happens(event) => happens(d, event, given, out, at),
         Asked::Pins => {
             let used = pins(d, out, at);
+            Turn { device: d, used }
+        }
+        Asked::Hits(h, n) => {
+            let used = hits(d, h, n, given, out, at);
             Turn { device: d, used }
         }
         Asked::Unreadable(e) => {

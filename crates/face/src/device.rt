@@ -1,9 +1,11 @@
 // The device's two doors, for a request of the script.
 ghost use Prim.Native.Nat.{_≤_};
+use bus::types::Hits;
 use bus::types::Outcome;
 use chip::Device;
 use commands::Found;
 use events::Event;
+use frame::Header;
 
 // What a transfer did: its number and, where that is 0, the reply.
 pub struct Transferred {
@@ -54,8 +56,15 @@ pub(crate) fn transfer(d: Device, bytes: [u8; 16], count: usize, lent: u8) -> Tr
     }
 }
 
-// The payload is the first eight bytes.
+// A frame's payload is the first eight bytes.
+fn payload(b: [u8; 16]) -> [u8; 8] {
+    [b[0], b[1], b[2], b[3], b[4], b[5], b[6], b[7]]
+}
+
 pub(crate) fn happens(d: Device, event: Event, b: [u8; 16]) -> Outcome {
-    let payload = [b[0], b[1], b[2], b[3], b[4], b[5], b[6], b[7]];
-    bus::event(d, event, payload)
+    bus::event(d, event, payload(b))
+}
+
+pub(crate) fn hits(d: Device, h: Header, given: usize, b: [u8; 16]) -> Hits {
+    bus::hits(d, h, given, payload(b))
 }

@@ -1,7 +1,7 @@
--- Laws of `agree`: alike places, more places, a place that failed. Assumes nothing.
-use mathlib.Core.Path.{_≡_, refl, sym, ap, _∙_}
-use mathlib.Core.Bool.{false, _&&_, and-true, and-assoc}
-use Prim.Native.Nat.{ℕ, zero, suc, _+_, _-_, _<_, _≤_}
+-- Laws of `agree`: alike places, more places. Assumes nothing.
+use mathlib.Core.Path.{_≡_, refl, sym}
+use mathlib.Core.Bool.{_&&_, and-true, and-assoc}
+use Prim.Native.Nat.{ℕ, zero, suc, _+_, _<_}
 use native.Mathlib.Nat.{add-zero, add-suc, le-refl}
 use native.Mathlib.Omega.{arith}
 use Rattle.filter.specs.Match.{agree}
@@ -25,9 +25,3 @@ from n x i = x (n + i)
 pub agree-more : (j n : ℕ) (x f m : ℕ → ℕ) → agree (n + j) x f m ≡ (agree n x f m && agree j (from n x) (from n f) (from n m))
 agree-more zero n x f m = rw (add-zero n) (sym (and-true _))
 agree-more (suc j) n x f m = rw (add-suc n j, agree-more j n x f m) (simp and-assoc)
-
-pub agree-failed : (n N : ℕ) (x f m : ℕ → ℕ) → n ≤ N → agree n x f m ≡ false → agree N x f m ≡ false
-agree-failed n N x f m l e = ap (λ (k : ℕ). agree k x f m) whole ∙ agree-more (N - n) n x f m ∙ rw e
-  where
-    whole : N ≡ n + (N - n)
-    whole = omega arith

@@ -1,3 +1,3 @@
 pub mod Agree
 pub mod Bytes
-pub mod Turn
+pub mod Sets

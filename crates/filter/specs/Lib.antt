@@ -1,2 +1,2 @@
 pub mod Match
-pub mod Lowest
+pub mod Hits

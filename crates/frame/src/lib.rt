@@ -4,8 +4,7 @@ mod identifier;
 
 use identifier::id_parts;
 ghost use mathlib.Core.Path.{_≡_};
-ghost use Prim.Native.Nat.{_≤_};
-ghost use lib.ListN.{length};
+ghost use lib.ListN.{getD};
 ghost use Rattle.frame.specs.Length.{dataLength, dataBytes, possible, dataFits, dataOf};
 ghost use Rattle.frame.specs.Tables.{idToSend, idAsRead, compared, idFrom};
 ghost use Rattle.frame.specs.Received.{received, headerIn, dataIn};
@@ -70,15 +69,11 @@ pub fn data_fits(h: Header, given: usize) -> bool
     given == data_bytes(h)
 }
 
-// A frame's data, with zeros up to eight bytes.
-fn data_of(h: Header, bytes: &[u8]) -> [u8; 8]
-    requires { ⌜ dataBytes h ≤ length (now bytes) ⌝ }
-    ensures { λ r. ⌜ r ≡ dataOf h (now (bytes .entry)) ⌝ }
+// Byte k of a frame's data, from 0.
+fn data_byte(h: Header, payload: [u8; 8], k: usize) -> u8
+    ensures { λ r. ⌜ r ≡ getD (dataOf h payload) k 0 ⌝ }
 {
-    let n = data_bytes(h);
-    let mut eight = [0u8; 8];
-    base::put(&bytes[..n], &mut eight);
-    eight
+    if k < data_bytes(h) { payload[k] } else { 0 }
 }
 
 // The identifier in 0x12: Table 2. For whoever writes a message, a driver or another caller: no crate here calls it,
@@ -129,14 +124,13 @@ pub fn compared(h: Header, payload: [u8; 8]) -> [u8; 6]
     let p = id_parts(h);
     let ide = base::flag(h.extended);
     let rtr = base::flag(h.remote);
-    let d = data_of(h, &payload);
     [
         p.id28,
         p.id20 * 32 + rtr * 16 + ide * 8 + p.id17,
         p.id14,
         p.id6 * 2,
-        d[0],
-        d[1],
+        data_byte(h, payload, 0),
+        data_byte(h, payload, 1),
     ]
 }
 

@@ -3,14 +3,16 @@ use mathlib.Core.Bool.{Bool, true, false, not, _&&_, _||_}
 use mathlib.Core.List.{List}
 use Prim.Native.Nat.{ℕ}
 use lib.Dec.{eqb}
+use lib.ListN.{replicate}
 use Rattle.base.specs.Pick.{pick}
 use Rattle.frame.specs.declared.Header.{Header}
 use Rattle.frame.specs.Length.{possible, dataFits}
 use Rattle.chip.specs.declared.Device.{Device}
 use Rattle.chip.specs.State.{loopback, monitor, sleep, initialization, idle}
 use Rattle.receive.specs.declared.Arrival.{Arrival}
+use Rattle.receive.specs.declared.Brought.{Brought}
 use Rattle.receive.specs.declared.Arrival.the-variants.{A1, A2, A3}
-use Rattle.receive.specs.Receive.{filtersAndRoom, ownHeader, ownData}
+use Rattle.receive.specs.Receive.{filtersAndRoom, ownFrame}
 use Rattle.transmit.specs.Transmit.{canBegin}
 use Rattle.judged.specs.declared.Answer.{Answer}
 use Rattle.judged.specs.declared.Answer.the-variants.{Done, Arrived}
@@ -61,31 +63,51 @@ takesNoFrames acting = quietMode acting || eqb acting loopback
 unfoldable pub unacknowledged : ℕ → Bool → Bool
 unacknowledged acting acknowledged = eqb acting monitor && not acknowledged
 
--- "the first that holds": A1; "A2 bus off"; A3; then the filters and the room
-unfoldable pub reason : Device → Header → Bool → List ℕ → Arrival
-reason d h acknowledged bytes =
-    pick (takesNoFrames (d .acting)) A1
+-- "the first that holds": A1; "A2 bus off"; A3; then the filters and the room. "A1 speaks only of frames from the bus",
+-- and so do A2 and A3: a completion's answer "says Queued, A4 or A5".
+unfoldable pub reason : Device → Brought → ℕ → Arrival
+reason d b set =
+    pick (b .own) (filtersAndRoom d set)
+    (pick (takesNoFrames (d .acting)) A1
     (pick (d .counters .busoff) A2
-    (pick (unacknowledged (d .acting) acknowledged) A3
-    (filtersAndRoom d h bytes)))
+    (pick (unacknowledged (d .acting) (b .acknowledged)) A3
+    (filtersAndRoom d set))))
 
--- "In loopback each completed own message arrives as a good frame: the completion's answer also says Queued, A4 or A5"
-unfoldable pub echo : Device → Answer
-echo d = pick (eqb (d .acting) loopback) (Arrived (filtersAndRoom d (ownHeader d) (ownData d))) Done
+-- what an event says that isn't refused, by the filters that its frame hits
+unfoldable pub said : Device → Brought → ℕ → Answer
+said d b set = pick (b .comes) (Arrived (reason d b set)) Done
 
--- what an event says that isn't refused
-unfoldable pub said : Device → Event → List ℕ → Answer
-said d (GoodFrame h acknowledged given) bytes = Arrived (reason d h acknowledged bytes)
-said d Completed bytes = echo d
-said d (ReceiveError kind) bytes = Done
-said d DominantBit bytes = Done
-said d (TransmitError kind counted) bytes = Done
-said d Begun bytes = Done
-said d ArbitrationLost bytes = Done
-said d ElevenRecessive bytes = Done
-said d BusQuiet bytes = Done
-said d BusActivity bytes = Done
-said d (Ticks count) bytes = Done
-said d (TxenPin level) bytes = Done
-said d MrPin bytes = Done
-said d Unknown bytes = Done
+-- what an event brings: a good frame, or the own message that it completes
+unfoldable pub fromTheBus : Header → Bool → List ℕ → Brought
+fromTheBus h acknowledged bytes = record {
+  comes = true;
+  own = false;
+  acknowledged = acknowledged;
+  header = h;
+  payload = bytes;
+}
+
+unfoldable pub nothing : Brought
+nothing = record {
+  comes = false;
+  own = false;
+  acknowledged = false;
+  header = record { id = 0; extended = false; remote = false; code = 0 };
+  payload = replicate 8 0;
+}
+
+unfoldable pub brought : Device → Event → List ℕ → Brought
+brought d (GoodFrame h acknowledged given) bytes = fromTheBus h acknowledged bytes
+brought d Completed bytes = ownFrame d
+brought d (ReceiveError kind) bytes = nothing
+brought d DominantBit bytes = nothing
+brought d (TransmitError kind counted) bytes = nothing
+brought d Begun bytes = nothing
+brought d ArbitrationLost bytes = nothing
+brought d ElevenRecessive bytes = nothing
+brought d BusQuiet bytes = nothing
+brought d BusActivity bytes = nothing
+brought d (Ticks count) bytes = nothing
+brought d (TxenPin level) bytes = nothing
+brought d MrPin bytes = nothing
+brought d Unknown bytes = nothing

@@ -1,7 +1,7 @@
 // Which events can't be, and what the others are answered.
 ghost use mathlib.Core.Path.{_≡_};
 ghost use Rattle.judged.specs.Judged.{quietMode, noErrors, runs, impossibleFrame, impossible};
-ghost use Rattle.judged.specs.Judged.{takesNoFrames, unacknowledged, reason, echo, said};
+ghost use Rattle.judged.specs.Judged.{takesNoFrames, unacknowledged, reason, said, fromTheBus, nothing, brought};
 use chip::Device;
 use chip::IDLE;
 use chip::INITIALIZATION;
@@ -11,6 +11,7 @@ use chip::SLEEP;
 use events::Event;
 use frame::Header;
 use receive::Arrival;
+use receive::Brought;
 
 pub enum Answer {
     // 1 or 8.
@@ -39,7 +40,8 @@ fn runs(d: Device) -> bool
     d.sending != IDLE
 }
 
-fn impossible_frame(h: Header, given: usize) -> bool
+// 8, of a good frame: impossible fields.
+pub fn impossible_frame(h: Header, given: usize) -> bool
     ensures { λ r. ⌜ r ≡ impossibleFrame h given ⌝ }
 {
     !(frame::possible(h) & frame::data_fits(h, given))
@@ -80,14 +82,19 @@ fn unacknowledged(acting: u8, acknowledged: bool) -> bool
     (acting == MONITOR) & !acknowledged
 }
 
-// What becomes of a good frame from the bus: the first reason that holds.
-pub fn reason(d: Device, h: Header, acknowledged: bool, payload: [u8; 8]) -> Arrival
-    ensures { λ r. ⌜ r ≡ reason d h acknowledged payload ⌝ }
+// What becomes of a frame, by the filters that it hits: the first reason that holds. A1 to A3 speak of frames from the
+// bus alone.
+pub fn reason(d: Device, b: Brought, hits: u8) -> Arrival
+    ensures { λ r. ⌜ r ≡ reason d b hits ⌝ }
 {
+    let own = b.own;
     let deaf = takes_no_frames(d.acting);
     let off = d.counters.busoff;
-    let unheard = unacknowledged(d.acting, acknowledged);
-    let what = receive::filters_and_room(d, h, payload);
+    let unheard = unacknowledged(d.acting, b.acknowledged);
+    let what = receive::filters_and_room(d, hits);
+    if own {
+        return what;
+    }
     if deaf {
         return Arrival::A1;
     }
@@ -100,42 +107,66 @@ pub fn reason(d: Device, h: Header, acknowledged: bool, payload: [u8; 8]) -> Arr
     what
 }
 
-// What a completion says: in loopback the own message comes back.
-fn echo(d: Device) -> Answer
-    ensures { λ r. ⌜ r ≡ echo d ⌝ }
+// What an event says that isn't refused, by what it brings.
+pub fn said(d: Device, b: Brought, hits: u8) -> Answer
+    ensures { λ r. ⌜ r ≡ said d b hits ⌝ }
 {
-    let acting = d.acting;
-    if acting == LOOPBACK {
-        let own = receive::own_frame(d);
-        let payload = own.payload;
-        Answer::Arrived(receive::filters_and_room(d, own.header, payload))
+    let comes = b.comes;
+    if comes {
+        Answer::Arrived(reason(d, b, hits))
     } else {
         Answer::Done
     }
 }
 
-pub fn said(d: Device, e: Event, payload: [u8; 8]) -> Answer
-    ensures { λ r. ⌜ r ≡ said d e payload ⌝ }
+fn from_the_bus(header: Header, acknowledged: bool, payload: [u8; 8]) -> Brought
+    ensures { λ r. ⌜ r ≡ fromTheBus header acknowledged payload ⌝ }
+{
+    Brought {
+        comes: true,
+        own: false,
+        acknowledged,
+        header,
+        payload,
+    }
+}
+
+fn nothing() -> Brought
+    ensures { λ r. ⌜ r ≡ nothing ⌝ }
+{
+    let header = Header {
+        id: 0,
+        extended: false,
+        remote: false,
+        code: 0,
+    };
+    Brought {
+        comes: false,
+        own: false,
+        acknowledged: false,
+        header,
+        payload: [0; 8],
+    }
+}
+
+// What an event brings: a good frame; a completion our own message, which comes back in loopback alone; else nothing.
+pub fn brought(d: Device, e: Event, payload: [u8; 8]) -> Brought
+    ensures { λ r. ⌜ r ≡ brought d e payload ⌝ }
 {
     match e {
-        Event::GoodFrame(h, acknowledged, _) => Answer::Arrived(reason(
-            d,
-            h,
-            acknowledged,
-            payload,
-        )),
-        Event::Completed => echo(d),
-        Event::ReceiveError(_) => Answer::Done,
-        Event::DominantBit => Answer::Done,
-        Event::TransmitError(_, _) => Answer::Done,
-        Event::Begun => Answer::Done,
-        Event::ArbitrationLost => Answer::Done,
-        Event::ElevenRecessive => Answer::Done,
-        Event::BusQuiet => Answer::Done,
-        Event::BusActivity => Answer::Done,
-        Event::Ticks(_) => Answer::Done,
-        Event::TxenPin(_) => Answer::Done,
-        Event::MrPin => Answer::Done,
-        Event::Unknown => Answer::Done,
+        Event::GoodFrame(h, acknowledged, _) => from_the_bus(h, acknowledged, payload),
+        Event::Completed => receive::own_frame(d),
+        Event::ReceiveError(_) => nothing(),
+        Event::DominantBit => nothing(),
+        Event::TransmitError(_, _) => nothing(),
+        Event::Begun => nothing(),
+        Event::ArbitrationLost => nothing(),
+        Event::ElevenRecessive => nothing(),
+        Event::BusQuiet => nothing(),
+        Event::BusActivity => nothing(),
+        Event::Ticks(_) => nothing(),
+        Event::TxenPin(_) => nothing(),
+        Event::MrPin => nothing(),
+        Event::Unknown => nothing(),
     }
 }

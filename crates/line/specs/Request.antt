@@ -17,13 +17,15 @@ use Rattle.line.specs.declared.Expected.the-variants.{Request, Byte, Len
 use Rattle.line.specs.declared.Expected.the-variants.{LengthCode, AckOrNoack, Error, CountedOrExempt, Count}
 use Rattle.line.specs.declared.Expected.the-variants.{ZeroOrOne, EndOfLine}
 use Rattle.line.specs.declared.Asked.{Asked}
-use Rattle.line.specs.declared.Asked.the-variants.{Nothing, Transfer, Happens, Pins, Unreadable}
+use Rattle.line.specs.declared.Asked.the-variants.{Nothing, Transfer, Happens, Pins, Hits, Unreadable}
 use Rattle.line.specs.declared.Line.{Line}
 use Rattle.line.specs.declared.data.Data.{Data}
 use Rattle.line.specs.declared.words.Choice.{Choice}
 use Rattle.line.specs.declared.words.Choice.the-variants.{Yes, No, Neither}
 use Rattle.line.specs.declared.errors.Kind.{Kind}
 use Rattle.line.specs.declared.errors.Kind.the-variants.{Is, Other}
+use Rattle.line.specs.declared.frames.For.{For}
+use Rattle.line.specs.declared.frames.For.the-variants.{Arrival, Question}
 use Rattle.line.specs.declared.requests.Alone.{Alone}
 use Rattle.line.specs.declared.requests.Alone.the-variants.{Asks, Unknown}
 use Rattle.line.specs.Words.{uncommented, wordsOf, first, rest, same, choiceOf, amongWords}
@@ -73,7 +75,8 @@ sizedOf w ws =
     need (isNumber 10 (drop 4 w) && leb (valueOf 10 (drop 4 w)) 16) Lent w
     (transferOf (valueOf 10 (drop 4 w)) ws)
 
--- ---- `frame ID std|ext data|remote CODE ack|noack B B …`, from the last word to the first
+-- ---- `frame ID std|ext data|remote CODE ack|noack B B …` and `hits ID std|ext data|remote CODE B B …`, from the last
+-- word to the first
 
 unfoldable pub frameData : Header → Bool → List (List ℕ) → Line
 frameData h acked ws =
@@ -85,26 +88,36 @@ frameAck h ws =
     chosen (choiceOf (first ws) (ascii "ack") (ascii "noack")) AckOrNoack (first ws)
     (λ acked. frameData h acked (rest ws))
 
+unfoldable pub hitsData : Header → List (List ℕ) → Line
+hitsData h ws =
+    need (areBytes ws) Byte (firstOther ws)
+    (withData (Hits h (length (kept ws))) (kept ws))
+
+-- what follows the length code
+unfoldable pub frameRest : For → Header → List (List ℕ) → Line
+frameRest Arrival h ws = frameAck h ws
+frameRest Question h ws = hitsData h ws
+
 -- A code above 255 is kept as 255, which is as impossible.
-unfoldable pub frameCode : ℕ → Bool → Bool → List (List ℕ) → Line
-frameCode id extended remote ws =
+unfoldable pub frameCode : For → ℕ → Bool → Bool → List (List ℕ) → Line
+frameCode what id extended remote ws =
     need (isNumber 10 (first ws)) LengthCode (first ws)
-    (frameAck (record { id = id; extended = extended; remote = remote; code = min (valueOf 10 (first ws)) 255 }) (rest ws))
+    (frameRest what (record { id = id; extended = extended; remote = remote; code = min (valueOf 10 (first ws)) 255 }) (rest ws))
 
-unfoldable pub frameRemote : ℕ → Bool → List (List ℕ) → Line
-frameRemote id extended ws =
+unfoldable pub frameRemote : For → ℕ → Bool → List (List ℕ) → Line
+frameRemote what id extended ws =
     chosen (choiceOf (first ws) (ascii "remote") (ascii "data")) DataOrRemote (first ws)
-    (λ remote. frameCode id extended remote (rest ws))
+    (λ remote. frameCode what id extended remote (rest ws))
 
-unfoldable pub frameKind : ℕ → List (List ℕ) → Line
-frameKind id ws =
+unfoldable pub frameKind : For → ℕ → List (List ℕ) → Line
+frameKind what id ws =
     chosen (choiceOf (first ws) (ascii "ext") (ascii "std")) StdOrExt (first ws)
-    (λ extended. frameRemote id extended (rest ws))
+    (λ extended. frameRemote what id extended (rest ws))
 
-unfoldable pub frameOf : List (List ℕ) → Line
-frameOf ws =
+unfoldable pub frameOf : For → List (List ℕ) → Line
+frameOf what ws =
     need (isNumber 16 (first ws)) Identifier (first ws)
-    (frameKind (min (valueOf 16 (first ws)) most) (rest ws))
+    (frameKind what (min (valueOf 16 (first ws)) most) (rest ws))
 
 -- ---- `rxerr KIND`, `txerr KIND counted|exempt`
 
@@ -177,7 +190,8 @@ loneOf w ws = onAlone (aloneOf w) w ws
 -- the requests of a word and what it needs
 abbrev pub longer : List (List ℕ) → List (List ℕ × Line)
 longer ws =
-    (ascii "frame", frameOf ws)
+    (ascii "frame", frameOf Arrival ws)
+    ∷ (ascii "hits", frameOf Question ws)
     ∷ (ascii "rxerr", rxerrOf ws)
     ∷ (ascii "txerr", txerrOf ws)
     ∷ (ascii "ticks", ticksOf ws)

@@ -1,10 +1,11 @@
-// `frame`: a good frame, with a function for each word that is read, from the last to the first.
+// `frame` and `hits`: a good frame, with a function for each word that is read, from the last to the first.
 ghost use mathlib.Core.Path.{_≡_};
 ghost use Prim.Native.Nat.{_≤_, min};
 ghost use lib.ListN.{length, drop};
 ghost use Rattle.line.specs.Words.{wordsOf};
 ghost use Rattle.line.specs.Numbers.{valueOf, most};
-ghost use Rattle.line.specs.Request.{frameData, frameAck, frameCode, frameRemote, frameKind, frameOf};
+ghost use Rattle.line.specs.Request.{frameData, frameAck, hitsData, frameRest};
+ghost use Rattle.line.specs.Request.{frameCode, frameRemote, frameKind, frameOf};
 use crate::Asked;
 use crate::Expected;
 use crate::Line;
@@ -18,6 +19,14 @@ use crate::words::choose;
 use crate::words::word;
 use events::Event;
 use frame::Header;
+
+// What a frame's words are for.
+pub enum For {
+    // The frame arrives.
+    Arrival,
+    // Which filters it would hit.
+    Question,
+}
 
 fn frame_data(header: Header, acked: bool, s: &[u8], at: usize) -> Line
     requires { ⌜ at ≤ length (now s) ⌝ }
@@ -42,6 +51,26 @@ fn frame_ack(header: Header, s: &[u8], at: usize) -> Line
     }
 }
 
+fn hits_data(header: Header, s: &[u8], at: usize) -> Line
+    requires { ⌜ at ≤ length (now s) ⌝ }
+    ensures { λ r. ⌜ r ≡ hitsData header (wordsOf (drop at (now (s .entry)))) ⌝ }
+{
+    let d = gather(s, at);
+    let count = d.count;
+    carrying(Asked::Hits(header, count), d)
+}
+
+// What follows the length code: filters don't ask who acknowledged a frame.
+fn frame_rest(what: For, header: Header, s: &[u8], at: usize) -> Line
+    requires { ⌜ at ≤ length (now s) ⌝ }
+    ensures { λ r. ⌜ r ≡ frameRest what header (wordsOf (drop at (now (s .entry)))) ⌝ }
+{
+    match what {
+        For::Arrival => frame_ack(header, s, at),
+        For::Question => hits_data(header, s, at),
+    }
+}
+
 fn code(word: &[u8]) -> u8
     ensures { λ r. ⌜ r ≡ min (valueOf 10 (now (word .entry))) 255 ⌝ }
 {
@@ -49,9 +78,9 @@ fn code(word: &[u8]) -> u8
     if n < 255 { n as u8 } else { 255 }
 }
 
-fn frame_code(id: u32, extended: bool, remote: bool, s: &[u8], at: usize) -> Line
+fn frame_code(what: For, id: u32, extended: bool, remote: bool, s: &[u8], at: usize) -> Line
     requires { ⌜ at ≤ length (now s) ⌝ }
-    ensures { λ r. ⌜ r ≡ frameCode id extended remote (wordsOf (drop at (now (s .entry)))) ⌝ }
+    ensures { λ r. ⌜ r ≡ frameCode what id extended remote (wordsOf (drop at (now (s .entry)))) ⌝ }
 {
     let w = word(s, at);
     let from = w.from;
@@ -63,36 +92,36 @@ fn frame_code(id: u32, extended: bool, remote: bool, s: &[u8], at: usize) -> Lin
             remote,
             code: code(&s[from..to]),
         };
-        frame_ack(header, s, to)
+        frame_rest(what, header, s, to)
     } else {
         unreadable(Expected::LengthCode, &s[from..to])
     }
 }
 
-fn frame_remote(id: u32, extended: bool, s: &[u8], at: usize) -> Line
+fn frame_remote(what: For, id: u32, extended: bool, s: &[u8], at: usize) -> Line
     requires { ⌜ at ≤ length (now s) ⌝ }
-    ensures { λ r. ⌜ r ≡ frameRemote id extended (wordsOf (drop at (now (s .entry)))) ⌝ }
+    ensures { λ r. ⌜ r ≡ frameRemote what id extended (wordsOf (drop at (now (s .entry)))) ⌝ }
 {
     let w = word(s, at);
     let from = w.from;
     let to = w.to;
     match choose(&s[from..to], b"remote", b"data") {
-        Choice::Yes => frame_code(id, extended, true, s, to),
-        Choice::No => frame_code(id, extended, false, s, to),
+        Choice::Yes => frame_code(what, id, extended, true, s, to),
+        Choice::No => frame_code(what, id, extended, false, s, to),
         Choice::Neither => unreadable(Expected::DataOrRemote, &s[from..to]),
     }
 }
 
-fn frame_kind(id: u32, s: &[u8], at: usize) -> Line
+fn frame_kind(what: For, id: u32, s: &[u8], at: usize) -> Line
     requires { ⌜ at ≤ length (now s) ⌝ }
-    ensures { λ r. ⌜ r ≡ frameKind id (wordsOf (drop at (now (s .entry)))) ⌝ }
+    ensures { λ r. ⌜ r ≡ frameKind what id (wordsOf (drop at (now (s .entry)))) ⌝ }
 {
     let w = word(s, at);
     let from = w.from;
     let to = w.to;
     match choose(&s[from..to], b"ext", b"std") {
-        Choice::Yes => frame_remote(id, true, s, to),
-        Choice::No => frame_remote(id, false, s, to),
+        Choice::Yes => frame_remote(what, id, true, s, to),
+        Choice::No => frame_remote(what, id, false, s, to),
         Choice::Neither => unreadable(Expected::StdOrExt, &s[from..to]),
     }
 }
@@ -103,15 +132,15 @@ fn identifier(word: &[u8]) -> u32
     capped(word, 16) as u32
 }
 
-pub(crate) fn frame(s: &[u8], at: usize) -> Line
+pub(crate) fn frame(what: For, s: &[u8], at: usize) -> Line
     requires { ⌜ at ≤ length (now s) ⌝ }
-    ensures { λ r. ⌜ r ≡ frameOf (wordsOf (drop at (now (s .entry)))) ⌝ }
+    ensures { λ r. ⌜ r ≡ frameOf what (wordsOf (drop at (now (s .entry)))) ⌝ }
 {
     let w = word(s, at);
     let from = w.from;
     let to = w.to;
     if is_number(&s[from..to], 16) {
-        frame_kind(identifier(&s[from..to]), s, to)
+        frame_kind(what, identifier(&s[from..to]), s, to)
     } else {
         unreadable(Expected::Identifier, &s[from..to])
     }

@@ -10,6 +10,7 @@ mod transfers;
 mod words;
 
 use events::Event;
+use frame::Header;
 ghost use mathlib.Core.Path.{_≡_};
 ghost use Rattle.line.specs.Request.{readLine};
 
@@ -37,6 +38,8 @@ pub enum Asked {
     Transfer(u8),
     Happens(Event),
     Pins,
+    // Which filters a frame hits: its header, and how many data bytes the line has.
+    Hits(Header, usize),
     Unreadable(Expected),
 }
 

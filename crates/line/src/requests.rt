@@ -12,6 +12,7 @@ use crate::answers::plain;
 use crate::answers::unreadable;
 use crate::errors::rxerr;
 use crate::errors::txerr;
+use crate::frames::For;
 use crate::frames::frame;
 use crate::numbers::is_number;
 use crate::numbers::wrapped;
@@ -106,7 +107,9 @@ fn named(word: &[u8], s: &[u8], at: usize) -> Line
     } else if is_sized(word) {
         sized(word, s, at)
     } else if is(word, b"frame") {
-        frame(s, at)
+        frame(For::Arrival, s, at)
+    } else if is(word, b"hits") {
+        frame(For::Question, s, at)
     } else if is(word, b"rxerr") {
         rxerr(s, at)
     } else if is(word, b"txerr") {

@@ -12,6 +12,7 @@ use Rattle.host.specs.Transfer
 use Rattle.judged.specs.Judged
 use Rattle.changed.specs.Changed
 use Rattle.bus.specs.Event
+use Rattle.bus.specs.Hits
 use Rattle.bus.specs.Pins
 use Rattle.receive.proofs as receive
 use Rattle.refused.proofs as refused
@@ -26,8 +27,11 @@ use Rattle.one.specs.Shapes.{result, result-and-content}
 
 module _ (M : Type 1) where
   -- ---- receive
-  pub receive·hit : OneResult M receive.hit.ended receive.hit.spec
-  receive·hit = result receive.hit.clauses (λ _. Receive.hit) refl
+  pub receive·matching : OneResult M receive.matching.ended receive.matching.spec
+  receive·matching = result receive.matching.clauses (λ _. Receive.matching) refl
+
+  pub receive·hits : OneResult M receive.hits.ended receive.hits.spec
+  receive·hits = result receive.hits.clauses (λ _. Receive.hits) refl
 
   pub receive·filters-and-room : OneResult M receive.filters_and_room.ended receive.filters_and_room.spec
   receive·filters-and-room = result receive.filters_and_room.clauses (λ _. Receive.filtersAndRoom) refl
@@ -61,6 +65,12 @@ module _ (M : Type 1) where
   pub judged·impossible : OneResult M judged.impossible.ended judged.impossible.spec
   judged·impossible = result judged.impossible.clauses (λ _. Judged.impossible) refl
 
+  pub judged·impossible-frame : OneResult M judged.impossible_frame.ended judged.impossible_frame.spec
+  judged·impossible-frame = result judged.impossible_frame.clauses (λ _. Judged.impossibleFrame) refl
+
+  pub judged·brought : OneResult M judged.brought.ended judged.brought.spec
+  judged·brought = result judged.brought.clauses (λ _. Judged.brought) refl
+
   pub judged·reason : OneResult M judged.reason.ended judged.reason.spec
   judged·reason = result judged.reason.clauses (λ _. Judged.reason) refl
 
@@ -80,6 +90,9 @@ module _ (M : Type 1) where
 
   pub bus·event : OneResult M bus.event.ended bus.event.spec
   bus·event = result bus.event.clauses (λ _. Event.event) refl
+
+  pub bus·hits : OneResult M bus.hits.ended bus.hits.spec
+  bus·hits = result bus.hits.clauses (λ _. Hits.hits) refl
 
   pub bus·pins : OneResult M bus.pins.ended bus.pins.spec
   bus·pins = result bus.pins.clauses (λ _. Pins.pins) refl

@@ -15,7 +15,7 @@ use Rattle.frame.specs.Tables
 use Rattle.frame.specs.Received
 use Rattle.to_send.specs.ToSend
 use Rattle.filter.specs.Match
-use Rattle.filter.specs.Lowest
+use Rattle.filter.specs.Hits
 use Rattle.base.proofs as base
 use Rattle.commands.proofs as commands
 use Rattle.frame.proofs as frame
@@ -89,8 +89,11 @@ module _ (M : Type 1) where
   pub filter·matches : OneResult M filter.matches.ended filter.matches.spec
   filter·matches = result filter.matches.clauses (λ _. Match.matches) refl
 
-  pub filter·lowest : OneResult M filter.lowest.ended filter.lowest.spec
-  filter·lowest = result filter.lowest.clauses (λ _. Lowest.lowest) refl
+  pub filter·hits : OneResult M filter.hits.ended filter.hits.spec
+  filter·hits = result filter.hits.clauses (λ _. Hits.hits) refl
 
   pub filter·filhit : OneResult M filter.filhit.ended filter.filhit.spec
-  filter·filhit = result filter.filhit.clauses (λ _. Lowest.filhit) refl
+  filter·filhit = result filter.filhit.clauses (λ _. Hits.filhit) refl
+
+  pub filter·how-many : OneResult M filter.how_many.ended filter.how_many.spec
+  filter·how-many = result filter.how_many.clauses (λ _. Hits.howMany) refl

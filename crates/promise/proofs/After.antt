@@ -16,8 +16,9 @@ use Rattle.chip.specs.declared.Device.{Device}
 use Rattle.chip.specs.State.{fresh}
 use Rattle.drawn.specs.Drawn.{int, stat, gp}
 use Rattle.events.specs.declared.Event.{Event}
-use Rattle.judged.specs.Judged.{impossible, said}
+use Rattle.judged.specs.Judged.{impossible}
 use Rattle.bus.specs.Event.{numberOf, valuesOf}
+use Rattle.bus.specs.Hits.{hits}
 use Rattle.bus.specs.Pins.{pins}
 use Rattle.commands.specs.declared.Found.the-variants.{At}
 use Rattle.commands.specs.declared.Row.{Row}
@@ -26,7 +27,7 @@ use Rattle.refused.specs.Refused.{findsFull, findsNone}
 use Rattle.shown.specs.Shown.{shows}
 use Rattle.promise.specs.Promises.{EachAnswerIsDue, SettingsAreThoseWritten, CountersAreTheRulesSum, TheTimeTagIsTheTicks, ErrIsTheKindsSeen}
 use Rattle.promise.specs.Promises.{IntfIsTheFlagsRaised, PinsShowTheRecords, NoFrameIsLost, FieldsStandAsTheyArrived, OwnMessagesAreThoseWritten}
-use Rattle.promise.specs.Promises.{TheAnswersKeepTheRecords, AnyDeviceGoesOnSo}
+use Rattle.promise.specs.Promises.{TheAnswersKeepTheRecords, TheFiltersAreToldAsWritten, AnyDeviceGoesOnSo}
 use Rattle.promise.specs.Sequence.{Input, spi, wire, Given, Step, shipped as step, number, values, done, run, conversation}
 use Rattle.promise.specs.Commands.{lengthsOf, transferFits}
 use Rattle.promise.specs.Own.{messageFits}
@@ -37,6 +38,7 @@ use Rattle.promise.specs.After.{recorded}
 use Rattle.promise.specs.Arrivals.{valuesDue}
 use Rattle.promise.specs.Noted.{noted, byTheRules, byTheAnswers, happened}
 use Rattle.promise.specs.Records.{Records, start}
+use Rattle.promise.specs.Questions.{Told}
 use Rattle.promise.specs.Registers.{pinsShown}
 use Rattle.promise.specs.Settings.{Settings}
 use Rattle.promise.proofs.Answered.{first, number-of-answer, said-done}
@@ -48,10 +50,11 @@ use Rattle.promise.proofs.Kept.{Kept, fresh-kept, situation-same}
 use Rattle.promise.proofs.Lowest.{lowest-none}
 use Rattle.promise.proofs.Proper.{stays, fresh-in}
 use Rattle.promise.proofs.Queues.{taken-waits}
+use Rattle.promise.proofs.Questions.{told-kept}
 use Rattle.promise.proofs.Ranges.{InRange}
 use Rattle.promise.proofs.Replies.{command-shows, intf-same, statf-same}
 use Rattle.promise.proofs.Rows.{asked-same}
-use Rattle.promise.proofs.Steps.{keeps, noted-more, refusedTransfer, doneTransfer, by-transfer, refusedEvent, doneEvent, by-event}
+use Rattle.promise.proofs.Steps.{keeps, noted-more, refusedTransfer, doneTransfer, by-transfer, refusedEvent, saidOf, doneEvent, by-event}
 
 module _ (d : Device) (r : Records) (range : InRange d) (h : Kept d r) where
   -- the device after an input keeps to the records after it, and what was given is due
@@ -125,10 +128,10 @@ module _ (d : Device) (r : Records) (range : InRange d) (h : Kept d r) where
     unfolding numberOf valuesOf
     refused-event-agrees n some is = (rw some h, (is, rw (← is, some)))
 
-    done-event-agrees : impossible d e ≡ false → number (doneEvent d e payload (said d e payload) .given) ≡ numberDue (situationOf r) an-event
-        → Agrees an-event (doneEvent d e payload (said d e payload))
+    done-event-agrees : impossible d e ≡ false → number (doneEvent d e payload (saidOf d e payload) .given) ≡ numberDue (situationOf r) an-event
+        → Agrees an-event (doneEvent d e payload (saidOf d e payload))
     done-event-agrees can is =
-        let number-is = number-of-answer d e payload (said d e payload) ∙ said-done d e payload in
+        let number-is = number-of-answer d e payload (saidOf d e payload) ∙ said-done d _ _ in
         let agrees = event-agrees d r h e payload can in
         (rw number-is (agrees .0), (is, rw (← is, number-is) (agrees .1)))
 
@@ -176,8 +179,11 @@ module _ (d : Device) (r : Records) (h : Holds d r) where
   pinned-in : Pinned pins d r
   pinned-in = pins-same d r range kept
 
+  told-in : Told hits d r
+  told-in = told-kept d r range kept
+
 pub onward : AnyDeviceGoesOnSo
-onward d r h = (pinned-in d r h, due-in d r h, holds-on d r h)
+onward d r h = (pinned-in d r h, due-in d r h, holds-on d r h, told-in d r h)
 
 -- ---- along a sequence
 
@@ -207,6 +213,9 @@ raised is = always is .raised
 
 pub pinned : PinsShowTheRecords
 pinned is = pinned-in (run step fresh is) (recorded step is) (always is)
+
+pub told : TheFiltersAreToldAsWritten
+told is = told-in (run step fresh is) (recorded step is) (always is)
 
 pub whole : NoFrameIsLost
 whole is = always is .whole

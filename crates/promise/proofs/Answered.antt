@@ -12,17 +12,18 @@ use Rattle.base.specs.Pick.{pick}
 use Rattle.frame.specs.Length.{possible}
 use Rattle.chip.specs.declared.Device.{Device}
 use Rattle.chip.specs.Proper.{proper}
-use Rattle.chip.specs.State.{loopback, idle, enabled}
+use Rattle.chip.specs.State.{idle, enabled}
 use Rattle.transmit.specs.Transmit.{sends, canBegin}
 use Rattle.receive.specs.declared.Arrival.{Arrival}
+use Rattle.receive.specs.declared.Brought.{Brought}
 use Rattle.events.specs.declared.Event.{Event}
 use Rattle.events.specs.declared.Event.the-variants.{GoodFrame, ReceiveError, DominantBit, TransmitError, Begun, Completed}
 use Rattle.events.specs.declared.Event.the-variants.{ArbitrationLost, ElevenRecessive, BusQuiet, BusActivity, Ticks, TxenPin, MrPin}
 use Rattle.events.specs.declared.Event.the-variants.{Unknown}
 use Rattle.judged.specs.declared.Answer.{Answer}
 use Rattle.judged.specs.declared.Answer.the-variants.{Refused as RefusedEvent, Done, Arrived}
-use Rattle.judged.specs.Judged.{quietMode, noErrors, runs, impossibleFrame, impossible, said, echo}
-use Rattle.bus.specs.Event.{answer, outcome, event, numberOf}
+use Rattle.judged.specs.Judged.{quietMode, noErrors, runs, impossibleFrame, impossible, reason, said}
+use Rattle.bus.specs.Event.{answered as answeredBy, answer, event, numberOf}
 use Rattle.commands.specs.declared.Found.{Found}
 use Rattle.commands.specs.declared.Found.the-variants.{At, Nothing}
 use Rattle.commands.specs.declared.Row.{Row}
@@ -38,7 +39,7 @@ use Rattle.promise.specs.Ranges.{deviceInRange}
 use Rattle.promise.specs.Numbers.{situation, applies, cannotBe, numberDue, refuses, Fits, numberGiven, Untouched}
 use Rattle.promise.proofs.Ranges.{proper-same}
 use Rattle.promise.proofs.Rows.{asked-same, no-command}
-use Rattle.promise.proofs.Steps.{by-transfer, by-event}
+use Rattle.promise.proofs.Steps.{by-transfer, by-event, saidOf, outcomeOf}
 use Rattle.promise.proofs.Shown.{arrives-same}
 use Rattle.promise.proofs.Own.{fits-same}
 use Rattle.promise.proofs.Lowest.{lowest-first, first-lowest, lowest-le}
@@ -111,27 +112,14 @@ impossible-same d (TxenPin level) = refl
 impossible-same d MrPin = refl
 impossible-same d Unknown = refl
 
-echo-told : (t : Bool) (what : Arrival) → refuses (pick t (Arrived what) Done) ≡ false
-echo-told true what = refl
-echo-told false what = refl
-
 -- what an event says that isn't refused is no refusal
-said-told : (d : Device) (e : Event) (payload : List ℕ) → refuses (said d e payload) ≡ false
-unfolding said echo
-said-told d (GoodFrame h acknowledged n) payload = refl
-said-told d Completed payload = echo-told (eqb (d .acting) loopback) _
-said-told d (ReceiveError kind) payload = refl
-said-told d DominantBit payload = refl
-said-told d (TransmitError kind counted) payload = refl
-said-told d Begun payload = refl
-said-told d ArbitrationLost payload = refl
-said-told d ElevenRecessive payload = refl
-said-told d BusQuiet payload = refl
-said-told d BusActivity payload = refl
-said-told d (Ticks count) payload = refl
-said-told d (TxenPin level) payload = refl
-said-told d MrPin payload = refl
-said-told d Unknown payload = refl
+comes-told : (t : Bool) (what : Arrival) → refuses (pick t (Arrived what) Done) ≡ false
+comes-told true what = refl
+comes-told false what = refl
+
+said-told : (d : Device) (b : Brought) (set : ℕ) → refuses (said d b set) ≡ false
+unfolding said
+said-told d b set = comes-told (b .comes) (reason d b set)
 
 -- and so it comes with 0
 told-zero : (a : Answer) → refuses a ≡ false → numberOf a ≡ 0
@@ -140,15 +128,15 @@ told-zero (RefusedEvent n) told = absurd (false≢true (sym told))
 told-zero Done told = refl
 told-zero (Arrived what) told = refl
 
-pub said-done : (d : Device) (e : Event) (payload : List ℕ) → numberOf (said d e payload) ≡ 0
-said-done d e payload = told-zero (said d e payload) (said-told d e payload)
+pub said-done : (d : Device) (b : Brought) (set : ℕ) → numberOf (said d b set) ≡ 0
+said-done d b set = told-zero (said d b set) (said-told d b set)
 
-pub told-out : (d : Device) (e : Event) (payload : List ℕ) (a : Answer) → outcome d e payload a .answer ≡ a
+pub told-out : (d : Device) (e : Event) (payload : List ℕ) (a : Answer) → outcomeOf d e payload a .answer ≡ a
 told-out d e payload (RefusedEvent n) = refl
 told-out d e payload Done = refl
 told-out d e payload (Arrived what) = refl
 
-pub number-of-answer : (d : Device) (e : Event) (payload : List ℕ) (a : Answer) → numberOf (outcome d e payload a .answer) ≡ numberOf a
+pub number-of-answer : (d : Device) (e : Event) (payload : List ℕ) (a : Answer) → numberOf (outcomeOf d e payload a .answer) ≡ numberOf a
 number-of-answer d e payload a = ap numberOf (told-out d e payload a)
 
 answer-number : (p q : Bool) (a : Answer) → numberOf a ≡ 0
@@ -159,10 +147,10 @@ answer-number true true a e = refl
 answer-number true false a e = e
 
 event-first : (d : Device) (e : Event) (payload : List ℕ) → numberGiven step d (wire e payload) ≡ numberDue (situation d) (wire e payload)
-unfolding event answer numberDue
+unfolding event answer answeredBy numberDue
 event-first d e payload =
     number-of-answer d e payload (answer d e payload)
-    ∙ answer-number (proper d) (impossible d e) (said d e payload) (said-done d e payload)
+    ∙ answer-number (proper d) (impossible d e) (saidOf d e payload) (said-done d _ _)
     ∙ rw (proper-same d, impossible-same d e)
 
 -- ---- the promises
@@ -177,7 +165,7 @@ fits d (spi bytes buffer) = tt
 fits d (wire e payload) =
     by-event (λ s. Fits (wire e payload) (s .given)) d e payload
     (λ n wrong. rw wrong)
-    (λ possible. rw (told-out d e payload (said d e payload), said-done d e payload) (said-told d e payload))
+    (λ possible. rw (told-out d e payload (saidOf d e payload), said-done d _ _) (said-told d _ _))
 
 below : (d : Device) (i : Input) → numberGiven step d i ≤ 8
 unfolding numberDue
@@ -202,4 +190,4 @@ refused d (spi bytes buffer) =
 refused d (wire e payload) =
     by-event (λ s. (number (s .given) ≡ 0 → ⊥) → Untouched d (wire e payload) s) d e payload
     (λ n wrong not-done. refl)
-    (λ possible not-done. absurd (not-done (number-of-answer d e payload (said d e payload) ∙ said-done d e payload)))
+    (λ possible not-done. absurd (not-done (number-of-answer d e payload (saidOf d e payload) ∙ said-done d _ _)))

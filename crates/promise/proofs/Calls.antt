@@ -5,6 +5,7 @@ use package.base.Stored.{codedList, codedℕ}
 use denote.Ref.{now}
 use Rattle.chip.specs.State.{fresh}
 use Rattle.bus.specs.Event
+use Rattle.bus.specs.Hits
 use Rattle.bus.specs.Pins
 use Rattle.host.specs.Transfer
 use Rattle.bus.proofs as bus
@@ -14,7 +15,7 @@ use Rattle.one.specs.Law.{read-off}
 use Rattle.one.specs.Shapes.{result-is, result-and-content-are}
 use Rattle.promise.specs.Promises.{TheMachineIsTheCode}
 use Rattle.promise.specs.Sequence.{Given, replied, answered, Step, shipped}
-use Rattle.promise.specs.Calls.{Transfers, Events, Asked, Looks, Begins}
+use Rattle.promise.specs.Calls.{Transfers, Events, Asked, Looks, Tells, Begins}
 use Rattle.promise.proofs.Answered.{told-out}
 
 module _ (M : Type 1) where
@@ -40,8 +41,11 @@ module _ (M : Type 1) where
   looks : Looks M Pins.pins
   looks = result-is bus.pins.clauses (λ _. Pins.pins) refl
 
+  tells : Tells M Hits.hits
+  tells = result-is bus.hits.clauses (λ _. Hits.hits) refl
+
   begins : Begins M fresh
   begins = result-is chip.fresh.clauses (λ _. fresh) refl
 
 pub is-the-code : TheMachineIsTheCode
-is-the-code M = (transfers M, events M, asked M, looks M, begins M)
+is-the-code M = (transfers M, events M, asked M, looks M, tells M, begins M)

@@ -1,4 +1,5 @@
--- Each wrong device of `specs/Wrong` and `WrongRegisters`, by the promise that it breaks, and on what. Assumes nothing.
+-- Each wrong device of `specs/Wrong` and `WrongRegisters`, and each wrong way to ask of `WrongQuestions`, by the
+-- promise that it breaks, and on what. Assumes nothing.
 use mathlib.Core.Path.{refl}
 use mathlib.Core.Bool.{true, false}
 use mathlib.Core.List.{List, [], _∷_, _++_, map}
@@ -9,11 +10,13 @@ use Rattle.chip.specs.Parts.{with-counters}
 use Rattle.chip.specs.State.{fresh}
 use Rattle.counters.specs.declared.Counters.{Counters}
 use Rattle.fifo.specs.Queue.{empty}
+use Rattle.frame.specs.declared.Header.{Header}
 use Rattle.events.specs.declared.ErrorKind.the-variants.{Stuff, Bit}
 use Rattle.events.specs.declared.Event.the-variants.{GoodFrame, ReceiveError, TransmitError, Begun, Completed, ElevenRecessive, BusQuiet, BusActivity, Ticks}
 use Rattle.bus.specs.declared.types.Pins.{Pins}
 use Rattle.promise.specs.Sequence.{Input, spi, wire, Machine, shipped, run}
 use Rattle.promise.specs.Held.{Holds}
+use Rattle.promise.specs.Questions.{Question}
 use Rattle.promise.specs.Ranges.{deviceInRange}
 use Rattle.promise.specs.Records.{Records, start, with-counters as with-counted}
 use Rattle.promise.specs.Settings.{modeNamed}
@@ -21,6 +24,8 @@ use Rattle.promise.specs.Wrong.{onlyFirst, leisurely, roomFirst, reasons
 use Rattle.promise.specs.Wrong.{keepsBehind, resetKeeps, modeClears, strangersUnseen, oldCompletion, nothingCopied}
 use Rattle.promise.specs.WrongRegisters.{commandsExchanged, filterElsewhere, sleepsAtOnce, modeStays, borElsewhere, tx1mKept, filtonIgnored}
 use Rattle.promise.specs.WrongRegisters.{errsExchanged, errCleared, intfKept, intByStatfe, showsAnother, hitAtRead, repliesZeros, blind, groupsAlways}
+use Rattle.promise.specs.WrongRegisters.{highestShown, bothRaised}
+use Rattle.promise.specs.WrongQuestions.{whileOn, reversed, withoutSeven, anyFrame}
 use Rattle.promise.specs.WrongRegisters.{clearsFirst, refusesAll, changesNothing, madeUpRec, madeUpTec, madeUpGroups}
 use Rattle.promise.proofs.After.{fresh-holds}
 
@@ -43,6 +48,8 @@ pub data Case : Type 0 where
   misanswered : Machine → Device → Input → Case
   -- a refusal that changes the queue
   changing : Machine → Device → Input → Case
+  -- a way to ask which filters match, of a frame
+  mistold : Question → List Input → Header → ℕ → List ℕ → Case
   -- in a device that holds what these records have
   astray : (w : Machine) (d : Device) (r : Records) → Holds d r → Input → Case
 
@@ -52,11 +59,14 @@ abbrev pub toNormal : Input
 toNormal = spi (0x14 ∷ 0x00 ∷ []) []
 
 -- identifier 123, with that byte, and another behind it that is not the frame's
+abbrev pub scanHeader : Header
+scanHeader = record { id = 0x123; extended = false; remote = false; code = 1 }
+
 abbrev pub scan : ℕ → Input
-scan byte = wire (GoodFrame (record { id = 0x123; extended = false; remote = false; code = 1 }) true 1) (byte ∷ replicate 7 0)
+scan byte = wire (GoodFrame scanHeader true 1) (byte ∷ replicate 7 0)
 
 abbrev pub behind : Input
-behind = wire (GoodFrame (record { id = 0x123; extended = false; remote = false; code = 1 }) true 1) (1 ∷ replicate 7 0xAA)
+behind = wire (GoodFrame scanHeader true 1) (1 ∷ replicate 7 0xAA)
 
 -- with length code 9, and so eight bytes
 abbrev pub long : Input
@@ -192,5 +202,11 @@ cases =
     misjudged refusesAll fresh (ask 0xD2) ∷
     misanswered deniesDone fresh (wire (Ticks 1) []) ∷
     changing shortTakes (run shipped fresh two) tooShort ∷
+    undue highestShown (filtersOn ∷ toNormal ∷ scan 1 ∷ []) (ask 0xDA) ∷
+    unraised bothRaised (filtersOn ∷ toNormal ∷ scan 1 ∷ []) ∷
+    mistold whileOn [] scanHeader 1 (1 ∷ replicate 7 0) ∷
+    mistold reversed (maskAll 0x74 ∷ []) scanHeader 1 (1 ∷ replicate 7 0) ∷
+    mistold withoutSeven [] scanHeader 1 (1 ∷ replicate 7 0) ∷
+    mistold anyFrame [] scanHeader 2 (1 ∷ replicate 7 0) ∷
     astray groupsAlways oddDevice oddRecords odd-holds (ask 0xF8) ∷
     []

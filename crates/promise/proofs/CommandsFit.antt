@@ -10,7 +10,6 @@ use Rattle.base.specs.Bit.{byte}
 use Rattle.counters.specs.Rules.{testRec, testTec}
 use Rattle.fifo.specs.declared.Message.{Message}
 use Rattle.fifo.specs.Queue.{empty, full, put}
-use Rattle.filter.specs.Lowest.{filhit}
 use Rattle.chip.specs.declared.Device.{Device}
 use Rattle.chip.specs.declared.Registers.{Registers}
 use Rattle.chip.specs.Parts.{with-tx}
@@ -29,15 +28,15 @@ use Rattle.promise.proofs.Fits.{Grouped, grows, put-grows, left-fits, a
 module _ (d : Device) (h : InRange d) where
   pub reset-in : InRange (reset d)
   unfolding reset fresh modeOf
-  reset-in = (empty-fits, empty-fits, empty-fits, h .3, h .4, refl, refl, refl, refl)
+  reset-in = (empty-fits, empty-fits, empty-fits, h .3, h .4, refl, refl, refl)
 
   pub stopped-in : InRange (stopped d)
   unfolding stopped
-  stopped-in = (h .0, h .1, h .2, h .3, h .4, h .5, h .6, refl, h .8)
+  stopped-in = (h .0, h .1, h .2, h .3, h .4, h .5, refl, h .7)
 
   cleared-in : InRange (cleared d)
   unfolding cleared leftAlone
-  cleared-in = (h .0, empty-fits, h .2, h .3, h .4, h .5, h .6, left-fits (eqb (d .sending) idle) (empty .count), h .8)
+  cleared-in = (h .0, empty-fits, h .2, h .3, h .4, h .5, left-fits (eqb (d .sending) idle) (empty .count), h .7)
 
   written-in : (m : Message) → InRange (with-tx d (put (d .tx) m))
   written-in m = (
@@ -47,29 +46,28 @@ module _ (d : Device) (h : InRange d) where
     h .3,
     h .4,
     h .5,
-    h .6,
-    grows (eqb (d .sending) firstInFifo) (d .tx .count) (put (d .tx) m .count) (leb (d .sending) alone) (put-grows (full (d .tx)) (d .tx) m refl) (h .7),
-    h .8,
+    grows (eqb (d .sending) firstInFifo) (d .tx .count) (put (d .tx) m .count) (leb (d .sending) alone) (put-grows (full (d .tx)) (d .tx) m refl) (h .6),
+    h .7,
   )
 
   ctrl0-in : (v : ℕ) → InRange (ctrl0Written d v)
   unfolding ctrl0Written modeChanged raised stopped reset fresh modeOf
   ctrl0-in v =
       pick-under InRange (resetBit v) _ _
-      (λ resets. (empty-fits, empty-fits, empty-fits, h .3, h .4, refl, refl, refl, refl))
+      (λ resets. (empty-fits, empty-fits, empty-fits, h .3, h .4, refl, refl, refl))
       (λ stays. pick-under InRange (eqb (modeOf v) sleep) _ _
-      (λ sleeps. (h .0, h .1, h .2, h .3, h .4, h .5, h .6, h .7, rw sleeps (acting-le (d .acting) (d .regs .ctrl0) (h .8))))
+      (λ sleeps. (h .0, h .1, h .2, h .3, h .4, h .5, h .6, rw sleeps (acting-le (d .acting) (d .regs .ctrl0) (h .7))))
       (λ wakes. pick-under InRange (eqb (modeOf v) (d .acting)) _ _
-      (λ same. (h .0, h .1, h .2, h .3, h .4, h .5, h .6, h .7, named-fits (d .acting) v wakes (sym (eqb-true (modeOf v) (d .acting) same))))
-      (λ new. (h .0, h .1, h .2, h .3, h .4, h .5, h .6, refl, named-fits (modeOf v) v wakes refl))))
+      (λ same. (h .0, h .1, h .2, h .3, h .4, h .5, h .6, named-fits (d .acting) v wakes (sym (eqb-true (modeOf v) (d .acting) same))))
+      (λ new. (h .0, h .1, h .2, h .3, h .4, h .5, refl, named-fits (modeOf v) v wakes refl))))
 
   register-in : (v value : ℕ) → InRange (registerChanged d v value)
   unfolding registerChanged registersAfter
   register-in v value =
       among-keeps
-      (λ v (r : Registers). Ranges (d .rx) (d .tx) (d .history) (d .counters .groups) (r .errs) (r .mtag) (r .filhit) (d .sending) (d .acting) (r .ctrl0))
+      (λ v (r : Registers). Ranges (d .rx) (d .tx) (d .history) (d .counters .groups) (r .errs) (r .mtag) (d .sending) (d .acting) (r .ctrl0))
       v (registerDeeds (d .regs) value) (d .regs)
-      ((h .0, h .1, h .2, h .3, refl, h .5, h .6, h .7, h .8) and h and h and h and h and h and h and h and tt)
+      ((h .0, h .1, h .2, h .3, refl, h .5, h .6, h .7) and h and h and h and h and h and h and h and tt)
       (λ out. h)
 
   tec-groups : (value : ℕ) → leb (testTec (d .counters) value .groups) 128 ≡ true
@@ -84,22 +82,22 @@ module _ (d : Device) (h : InRange d) where
   pub does-in : (v k : ℕ) (bytes : List ℕ) → InRange (does d v k bytes)
   unfolding does messageTaken entryTaken aborted stopped timeReset receiveCleared recWritten tecWritten testRec filterWritten maskWritten
   does-in v k bytes =
-      let taken : InRange (messageTaken d) = (take-fits (d .rx) (h .0), h .1, h .2, h .3, h .4, h .5, h .6, h .7, h .8) in
+      let taken : InRange (messageTaken d) = (take-fits (d .rx) (h .0), h .1, h .2, h .3, h .4, h .5, h .6, h .7) in
       among-keeps (λ v e. InRange e) v (deeds d k bytes) (registerChanged d v (byte bytes 2))
       (taken
       and taken
       and taken
       and taken
-      and (h .0, h .1, take-fits (d .history) (h .2), h .3, h .4, h .5, h .6, h .7, h .8)
+      and (h .0, h .1, take-fits (d .history) (h .2), h .3, h .4, h .5, h .6, h .7)
       and stopped-in
       and cleared-in
       and reset-in
       and h
-      and (empty-fits, h .1, h .2, h .3, h .4, h .5, h .6, h .7, h .8)
+      and (empty-fits, h .1, h .2, h .3, h .4, h .5, h .6, h .7)
       and message-in bytes
       and ctrl0-in (byte bytes 2)
       and h
-      and (h .0, h .1, h .2, tec-groups (byte bytes 2), h .4, h .5, h .6, h .7, h .8)
+      and (h .0, h .1, h .2, tec-groups (byte bytes 2), h .4, h .5, h .6, h .7)
       and h
       and h
       and tt)

@@ -10,68 +10,60 @@ use Rattle.base.specs.Bit.{byte}
 use Rattle.base.proofs.Booleans.{and-left, and-right}
 use Rattle.counters.specs.Rules.{receiveError, dominantBit, goodFrame, transmitError, completed, elevenRecessive, groupsAfter}
 use Rattle.fifo.specs.Queue.{isEmpty, inRange}
-use Rattle.frame.specs.declared.Header.{Header}
 use Rattle.chip.specs.declared.Device.{Device}
-use Rattle.chip.specs.State.{modeOf, normal, sleep, monitor, bor, wakeup, idle, firstInFifo, loopback}
+use Rattle.chip.specs.State.{modeOf, normal, sleep, monitor, bor, wakeup, idle, firstInFifo}
 use Rattle.flags.specs.Flags.{raised, busError}
 use Rattle.transmit.specs.Transmit.{stopped, begun, canBegin, transmitted, fifoAfter, countedCompletion}
 use Rattle.modes.specs.Modes.{modeChanged, busQuiet, busActivity, canSleep}
 use Rattle.receive.specs.declared.Arrival.{Arrival}
-use Rattle.receive.specs.Receive.{arrived, hit, queueAfter, isQueued}
+use Rattle.receive.specs.declared.Brought.{Brought}
+use Rattle.receive.specs.Receive.{hits, arrived, queueAfter, isQueued}
 use Rattle.events.specs.declared.ErrorKind.{ErrorKind}
 use Rattle.events.specs.declared.Event.{Event}
 use Rattle.events.specs.declared.Event.the-variants.{GoodFrame, ReceiveError, DominantBit, TransmitError, Begun, Completed, ArbitrationLost, ElevenRecessive}
 use Rattle.events.specs.declared.Event.the-variants.{BusQuiet, BusActivity, Ticks, TxenPin, MrPin, Unknown}
 use Rattle.judged.specs.declared.Answer.{Answer}
-use Rattle.judged.specs.Judged.{impossible, said, echo}
-use Rattle.changed.specs.Changed.{errBit, countedFrame, heard, reachesTemporary, frameAfter, countedReceiveError, receiveErrorMet, dominantMet, countedTransmitError}
-use Rattle.changed.specs.Changed.{transmitErrorMet, echoed, recessiveMet, ticked, pinSet, arrival, after}
-use Rattle.bus.specs.Event.{outcome}
+use Rattle.judged.specs.Judged.{impossible, reason, said, brought}
+use Rattle.changed.specs.Changed.{errBit, countedFrame, heard, taken, reachesTemporary, countedReceiveError, receiveErrorMet, dominantMet, countedTransmitError}
+use Rattle.changed.specs.Changed.{transmitErrorMet, recessiveMet, ticked, pinSet, arrival, after}
 use Rattle.promise.proofs.Choices.{pick-under}
 use Rattle.promise.proofs.Ranges.{InRange, put-fits, take-fits}
-use Rattle.promise.proofs.Fits.{Grouped, woken, hit-fits, errs-more, tag-fits, some-wait}
+use Rattle.promise.proofs.Fits.{Grouped, woken, errs-more, tag-fits, some-wait}
 use Rattle.promise.proofs.CommandsFit.{reset-in, stopped-in}
+use Rattle.promise.proofs.Steps.{saidOf, outcomeOf}
 
 module _ (d : Device) (h : InRange d) where
-  frame-groups : leb (countedFrame (d .counters) (d .acting) .groups) 128 ≡ true
-  unfolding countedFrame goodFrame
-  frame-groups = pick-under Grouped (eqb (d .acting) normal) _ _ (λ counts. h .3) (λ stands. h .3)
+  heard-in : InRange (heard d)
+  unfolding heard countedFrame goodFrame
+  heard-in =
+      (h .0, h .1, h .2, pick-under Grouped (eqb (d .acting) normal) _ _ (λ counts. h .3) (λ stands. h .3), h .4, h .5, h .6, h .7)
 
-  arrived-in : (header : Header) (payload : List ℕ) (what : Arrival) → InRange (arrived d header payload what)
+  arrived-in : (b : Brought) (set : ℕ) (what : Arrival) → InRange (arrived d b set what)
   unfolding arrived raised queueAfter
-  arrived-in header payload what = (
+  arrived-in b set what = (
     pick-under (λ q. inRange q ≡ true) (isQueued what) _ _ (λ queued. put-fits (d .rx) _ (h .0)) (λ refused. h .0),
     h .1,
     h .2,
     h .3,
     h .4,
     h .5,
-    hit-fits (hit d header payload),
+    h .6,
     h .7,
-    h .8,
   )
 
   activity-in : InRange (busActivity d)
   unfolding busActivity modeChanged raised
   activity-in =
       pick-under InRange (eqb (d .acting) sleep && wakeup d) _ _
-      (λ wakes. (h .0, h .1, h .2, h .3, h .4, h .5, h .6, h .7, rw (woken (d .regs .ctrl0))))
+      (λ wakes. (h .0, h .1, h .2, h .3, h .4, h .5, h .6, rw (woken (d .regs .ctrl0))))
       (λ stays. h)
 
   quiet-in : InRange (busQuiet d)
   unfolding busQuiet modeChanged raised canSleep
   quiet-in =
       pick-under InRange (canSleep d) _ _
-      (λ sleeps. (h .0, h .1, h .2, h .3, h .4, h .5, h .6, h .7, rw (and-left (eqb (modeOf (d .regs .ctrl0)) sleep) _ sleeps)))
+      (λ sleeps. (h .0, h .1, h .2, h .3, h .4, h .5, h .6, rw (and-left (eqb (modeOf (d .regs .ctrl0)) sleep) _ sleeps)))
       (λ stays. h)
-
-  frame-in : (header : Header) (payload : List ℕ) (what : Arrival) → InRange (frameAfter d header payload what)
-  unfolding frameAfter heard
-  frame-in header payload what =
-      let a = arrived-in header payload what in
-      pick-under InRange (reachesTemporary what) _ _
-      (λ reaches. (a .0, a .1, a .2, frame-groups, a .4, a .5, a .6, a .7, a .8))
-      (λ stays. activity-in)
 
   errors-in : (kind : ErrorKind) → leb (busError d (errBit kind) .regs .errs) 31 ≡ true
   unfolding busError raised
@@ -80,12 +72,12 @@ module _ (d : Device) (h : InRange d) where
   received-in : (kind : ErrorKind) → InRange (receiveErrorMet d kind)
   unfolding receiveErrorMet busError raised countedReceiveError receiveError
   received-in kind =
-      (h .0, h .1, h .2, pick-under Grouped (eqb (d .acting) monitor) _ _ (λ stands. h .3) (λ counts. h .3), errors-in kind, h .5, h .6, h .7, h .8)
+      (h .0, h .1, h .2, pick-under Grouped (eqb (d .acting) monitor) _ _ (λ stands. h .3) (λ counts. h .3), errors-in kind, h .5, h .6, h .7)
 
   dominant-in : InRange (dominantMet d)
   unfolding dominantMet dominantBit
   dominant-in =
-      (h .0, h .1, h .2, pick-under Grouped (eqb (d .acting) monitor) _ _ (λ stands. h .3) (λ counts. h .3), h .4, h .5, h .6, h .7, h .8)
+      (h .0, h .1, h .2, pick-under Grouped (eqb (d .acting) monitor) _ _ (λ stands. h .3) (λ counts. h .3), h .4, h .5, h .6, h .7)
 
   transmit-groups : (counted : Bool) → leb (countedTransmitError (d .counters) (d .acting) counted .groups) 128 ≡ true
   unfolding countedTransmitError transmitError
@@ -101,7 +93,7 @@ module _ (d : Device) (h : InRange d) where
   transmit-error-in : (kind : ErrorKind) (counted : Bool) → InRange (transmitErrorMet d kind counted)
   unfolding transmitErrorMet stopped busError raised
   transmit-error-in kind counted =
-      (h .0, h .1, h .2, transmit-groups counted, errors-in kind, h .5, h .6, refl, h .8)
+      (h .0, h .1, h .2, transmit-groups counted, errors-in kind, h .5, refl, h .7)
 
   completion-groups : leb (countedCompletion (d .counters) (d .acting) .groups) 128 ≡ true
   unfolding countedCompletion completed
@@ -119,9 +111,8 @@ module _ (d : Device) (h : InRange d) where
     completion-groups,
     h .4,
     tag-fits (byte (d .buffer .bytes) 1),
-    h .6,
     refl,
-    h .8,
+    h .7,
   )
 
   begun-in : canBegin d ≡ true → InRange (begun d)
@@ -133,9 +124,8 @@ module _ (d : Device) (h : InRange d) where
     h .3,
     h .4,
     h .5,
-    h .6,
     some-wait (d .tx .count) (and-left (not (isEmpty (d .tx))) _ (and-right (eqb (d .sending) idle) _ can)),
-    h .8,
+    h .7,
   )
 
   ticked-in : (count : ℕ) → InRange (ticked d count)
@@ -157,30 +147,40 @@ module _ (d : Device) (h : InRange d) where
 
   recessive-in : InRange (recessiveMet d)
   unfolding recessiveMet
-  recessive-in = (h .0, h .1, h .2, recessive-groups, h .4, h .5, h .6, h .7, h .8)
+  recessive-in = (h .0, h .1, h .2, recessive-groups, h .4, h .5, h .6, h .7)
 
--- in loopback the own message arrives first
-echoed-in : (d : Device) → InRange d → (what : Arrival) → InRange (echoed d what)
-unfolding echoed
-echoed-in d h what = transmitted-in (arrived d _ _ what) (arrived-in d h _ _ what)
+-- a frame that is taken arrives first
+arrival-in : (d : Device) → InRange d → (b : Brought) (set : ℕ) (what : Arrival) → InRange (arrival d b set what)
+unfolding arrival taken
+arrival-in d h b set what =
+    let arrives = arrived-in d h b set what in
+    pick-under InRange (reachesTemporary what) _ _
+    (λ reaches. pick-under InRange (b .own) _ _ (λ own. transmitted-in (arrived d b set what) arrives) (λ bus. heard-in (arrived d b set what) arrives))
+    (λ stays. activity-in d h)
+
+-- an event that brings no frame
+after-in : (d : Device) → InRange d → (e : Event) → impossible d e ≡ false → InRange (after d e)
+unfolding impossible after
+after-in d h (GoodFrame header acknowledged n) possible = h
+after-in d h Completed possible = transmitted-in d h
+after-in d h (ReceiveError kind) possible = received-in d h kind
+after-in d h DominantBit possible = dominant-in d h
+after-in d h (TransmitError kind counted) possible = transmit-error-in d h kind counted
+after-in d h Begun possible = begun-in d h (not-false (canBegin d) possible)
+after-in d h ArbitrationLost possible = stopped-in d h
+after-in d h ElevenRecessive possible = recessive-in d h
+after-in d h BusQuiet possible = quiet-in d h
+after-in d h BusActivity possible = activity-in d h
+after-in d h (Ticks count) possible = ticked-in d h count
+after-in d h (TxenPin level) possible = pin-in d h level
+after-in d h MrPin possible = reset-in d h
+after-in d h Unknown possible = h
 
 -- every event that is possible
-pub event-in : (d : Device) → InRange d → (e : Event) (payload : List ℕ) → impossible d e ≡ false → InRange (outcome d e payload (said d e payload) .device)
-unfolding impossible said echo after arrival
-event-in d h (GoodFrame header acknowledged n) payload possible = frame-in d h header payload _
-event-in d h Completed payload possible =
-    pick-under (λ (a : Answer). InRange (outcome d Completed payload a .device)) (eqb (d .acting) loopback) _ _
-    (λ own. echoed-in d h _)
-    (λ elsewhere. transmitted-in d h)
-event-in d h (ReceiveError kind) payload possible = received-in d h kind
-event-in d h DominantBit payload possible = dominant-in d h
-event-in d h (TransmitError kind counted) payload possible = transmit-error-in d h kind counted
-event-in d h Begun payload possible = begun-in d h (not-false (canBegin d) possible)
-event-in d h ArbitrationLost payload possible = stopped-in d h
-event-in d h ElevenRecessive payload possible = recessive-in d h
-event-in d h BusQuiet payload possible = quiet-in d h
-event-in d h BusActivity payload possible = activity-in d h
-event-in d h (Ticks count) payload possible = ticked-in d h count
-event-in d h (TxenPin level) payload possible = pin-in d h level
-event-in d h MrPin payload possible = reset-in d h
-event-in d h Unknown payload possible = h
+pub event-in : (d : Device) → InRange d → (e : Event) (payload : List ℕ) → impossible d e ≡ false → InRange (outcomeOf d e payload (saidOf d e payload) .device)
+unfolding said
+event-in d h e payload possible =
+    let b = brought d e payload in
+    pick-under (λ (a : Answer). InRange (outcomeOf d e payload a .device)) (b .comes) _ _
+    (λ comes. arrival-in d h b (hits d b) (reason d b (hits d b)))
+    (λ none. after-in d h e possible)

@@ -18,7 +18,8 @@ use Rattle.chip.specs.State.{loopback, idle, bor}
 use Rattle.flags.specs.Flags.{raised, busError}
 use Rattle.transmit.specs.Transmit.{canBegin, withoutTx1m as tx1mCleared, ctrl1Begun, begun, stopped, countedCompletion, transmitted}
 use Rattle.receive.specs.declared.Arrival.{Arrival}
-use Rattle.receive.specs.Receive.{arrived, filtersAndRoom, ownHeader, ownData}
+use Rattle.receive.specs.declared.Brought.{Brought}
+use Rattle.receive.specs.Receive.{hits, arrived, ownFrame}
 use Rattle.events.specs.declared.ErrorKind.{ErrorKind}
 use Rattle.events.specs.declared.ErrorKind.the-variants.{Stuff, Ack, Crc, Form, Bit}
 use Rattle.events.specs.declared.Event.{Event}
@@ -27,8 +28,8 @@ use Rattle.events.specs.declared.Event.the-variants.{ArbitrationLost, ElevenRec
 use Rattle.events.specs.declared.Event.the-variants.{Unknown}
 use Rattle.judged.specs.declared.Answer.{Answer}
 use Rattle.judged.specs.declared.Answer.the-variants.{Arrived, Done}
-use Rattle.judged.specs.Judged.{runs, impossibleFrame, impossible, reason, echo, said}
-use Rattle.changed.specs.Changed.{errBit, countedReceiveError, receiveErrorMet, dominantMet, countedTransmitError, transmitErrorMet, echoed}
+use Rattle.judged.specs.Judged.{runs, impossibleFrame, impossible, reason, said, fromTheBus, nothing as nobody, brought}
+use Rattle.changed.specs.Changed.{errBit, countedReceiveError, receiveErrorMet, dominantMet, countedTransmitError, transmitErrorMet}
 use Rattle.changed.specs.Changed.{recessiveMet, ticked, pinSet, arrival, after}
 use Rattle.bus.specs.Event.{reasonOf, valuesOf, outcome}
 use Rattle.promise.specs.Counting.{groupMet}
@@ -40,7 +41,8 @@ use Rattle.promise.specs.Noted.{begunMet, completedMet, arrivalMet, happ
 use Rattle.promise.specs.Own.{Own}
 use Rattle.promise.specs.Records.{Records}
 use Rattle.promise.specs.Settings.{Settings, settingsOf, with-ctrl1, withoutTx1m, with-pin, osm, bor as borBit}
-use Rattle.promise.proofs.Arrivals.{bus-due, own-due, bus-finds, own-finds, arrival-kept, frame-kept}
+use Rattle.promise.proofs.Steps.{saidOf, outcomeOf}
+use Rattle.promise.proofs.Arrivals.{bus-due, own-due, finds, own-taken, arrival-kept, frame-kept}
 use Rattle.promise.proofs.Boxes.{rests-same, buffer-runs, halted-boxed, begun-boxed, transmitted-boxed}
 use Rattle.promise.proofs.Fits.{some-wait}
 use Rattle.promise.proofs.Kept.{Kept}
@@ -94,65 +96,86 @@ module _ (d : Device) (r : Records) (h : Kept d r) where
 
   -- ---- a completion: in loopback the own message arrives first
 
-  module _ (some : rests (r .outbox .running) ≡ false) (payload : List ℕ) where
+  module _ (some : rests (r .outbox .running) ≡ false) where
     abbrev m : Own
     m = inFlight (r .outbox .running)
 
-    header-is : ownHeader d ≡ m .header
+    abbrev b : Brought
+    b = ownFrame d
+
+    abbrev told : Arrival
+    told = reason d b (hits d b)
+
+    header-is : b .header ≡ m .header
+    unfolding ownFrame
     header-is = rw (buffer-runs _ _ _ _ _ _ (h .4) some) (header-of m (h .4 .flying))
 
-    data-is : ownData d ≡ m .eight
+    data-is : b .payload ≡ m .eight
+    unfolding ownFrame
     data-is = rw (buffer-runs _ _ _ _ _ _ (h .4) some) (eight-of m (h .4 .flying))
 
-    own-same : arriving r (ownHeader d) (ownData d) ≡ own r
+    own-same : arriving r (b .header) (b .payload) ≡ own r
     own-same = rw (header-is, data-is)
 
-    own-possible : possible (ownHeader d) ≡ true
+    own-possible : possible (b .header) ≡ true
     own-possible = rw header-is (header-possible m (h .4 .flying))
 
-    own-told : Arrival
-    own-told = filtersAndRoom d (ownHeader d) (ownData d)
+    its-own : b .own ≡ true
+    unfolding ownFrame
+    its-own = refl
 
-    own-says : reasonOf own-told ∷ [] ≡ dueOf r (frame (own r) [])
-    unfolding own-told
-    own-says = ap (λ n. n ∷ []) (own-due d r h (ownHeader d) (ownData d) own-possible) ∙ ap (λ (f : Frame). dueOf r (frame f [])) own-same
+    module _ (comes : b .comes ≡ true) where
+      own-says : reasonOf told ∷ [] ≡ dueOf r (frame (own r) [])
+      own-says = ap (λ n. n ∷ []) (own-due d r h b comes own-possible its-own) ∙ ap (λ (f : Frame). dueOf r (frame f [])) own-same
 
-    own-kept : Kept (echoed d own-told) (completedMet (arrivalMet r (own r) (reasonOf own-told)))
-    unfolding echoed own-told
-    own-kept =
-        let arrives = arriving r (ownHeader d) (ownData d) in
-        subst (λ (f : Frame). Kept (echoed d own-told) (completedMet (arrivalMet r f (reasonOf own-told)))) own-same
-        (transmitted-kept (arrived d (ownHeader d) (ownData d) own-told) (arrivalMet r arrives (reasonOf own-told))
-        (arrival-kept d r h (ownHeader d) (ownData d) own-possible own-told (own-finds d r h (ownHeader d) (ownData d) own-possible))
-        some)
+      own-kept : Kept (arrival d b (hits d b) told) (completedMet (arrivalMet r (own r) (reasonOf told)))
+      own-kept =
+          rw (own-taken d r h b comes own-possible its-own)
+          (subst (λ (f : Frame). Kept (transmitted (arrived d b (hits d b) told)) (completedMet (arrivalMet r f (reasonOf told)))) own-same
+          (transmitted-kept (arrived d b (hits d b) told) (arrivalMet r (arriving r (b .header) (b .payload)) (reasonOf told))
+          (arrival-kept d r h b comes own-possible told (finds d r h b comes own-possible)) some))
 
-    by-mode : (t : Bool)
-        → Kept
-        (outcome d Completed payload (pick t (Arrived own-told) Done) .device)
-        (completedMet (pick t (arrivalMet r (own r) (byte (dueOf r (pick t (frame (own r) []) nothing)) 1)) r))
-        × (valuesOf (outcome d Completed payload (pick t (Arrived own-told) Done) .answer) ≡ dueOf r (pick t (frame (own r) []) nothing))
-    unfolding arrival after valuesOf
-    by-mode true = (
-      subst (λ (n : ℕ). Kept (echoed d own-told) (completedMet (arrivalMet r (own r) n))) (ap (λ values. byte values 1) own-says) own-kept,
-      own-says,
+    -- by whether it comes, as the device and as the records have it
+    abbrev Agreeing : Bool → Bool → Type 0
+    Agreeing t u =
+        Kept
+        (outcome d Completed b (hits d b) (pick t (Arrived told) Done) .device)
+        (completedMet (pick u (arrivalMet r (own r) (byte (dueOf r (pick u (frame (own r) []) nothing)) 1)) r))
+        × (valuesOf (outcome d Completed b (hits d b) (pick t (Arrived told) Done) .answer) ≡ dueOf r (pick u (frame (own r) []) nothing))
+
+    by-mode : (t : Bool) → b .comes ≡ t → Agreeing t t
+    unfolding after valuesOf
+    by-mode true comes = (
+      subst (λ (n : ℕ). Kept (arrival d b (hits d b) told) (completedMet (arrivalMet r (own r) n))) (ap (λ values. byte values 1) (own-says comes)) (own-kept comes),
+      own-says comes,
     )
-    by-mode false = (transmitted-kept d r h some, refl)
+    by-mode false none = (transmitted-kept d r h some, refl)
+
+    own-comes : b .comes ≡ eqb (r .settings .acting) loopback
+    unfolding ownFrame
+    own-comes = ap (λ a. eqb a loopback) (acts d r h)
+
+    own-agrees : Agreeing (b .comes) (eqb (r .settings .acting) loopback)
+    own-agrees =
+        subst (λ (t : Bool). Agreeing t (eqb (r .settings .acting) loopback)) (sym own-comes)
+        (by-mode (eqb (r .settings .acting) loopback) own-comes)
 
   -- ---- each event
 
   -- the device keeps to the records, and the answer has the values that are due
   abbrev Agrees : Event → List ℕ → Answer → Type 0
   Agrees e payload a =
-      Kept (outcome d e payload a .device) (happened r e payload (byte (valuesDue r e payload) 1))
-      × (valuesOf (outcome d e payload a .answer) ≡ valuesDue r e payload)
+      Kept (outcomeOf d e payload a .device) (happened r e payload (byte (valuesDue r e payload) 1))
+      × (valuesOf (outcomeOf d e payload a .answer) ≡ valuesDue r e payload)
 
-  pub event-agrees : (e : Event) (payload : List ℕ) → impossible d e ≡ false → Agrees e payload (said d e payload)
-  unfolding said echo own-told arrival after happened impossible impossibleFrame receiveErrorMet busError raised countedReceiveError receiveError dominantMet dominantBit
+  pub event-agrees : (e : Event) (payload : List ℕ) → impossible d e ≡ false → Agrees e payload (saidOf d e payload)
+  unfolding said brought fromTheBus nobody after happened impossible impossibleFrame receiveErrorMet busError raised countedReceiveError receiveError dominantMet dominantBit
       transmitErrorMet countedTransmitError transmitError stopped recessiveMet elevenRecessive ticked pinSet valuesOf
   event-agrees (GoodFrame header acknowledged count) payload can =
+      let b : Brought = fromTheBus header acknowledged payload in
       let ok = and-left (possible header) _ (not-false (possible header && dataFits header count) can) in
-      let due = bus-due d r h header payload ok acknowledged in (
-        rw (← due) (frame-kept d r h header payload ok (reason d header acknowledged payload) (bus-finds d r h header payload ok acknowledged)),
+      let due = bus-due d r h b refl ok refl in (
+        rw (← due) (frame-kept d r h b refl ok (reason d b (hits d b)) (finds d r h b refl ok) refl),
         ap (λ n. n ∷ []) due,
       )
   event-agrees (ReceiveError kind) payload can = (
@@ -177,7 +200,7 @@ module _ (d : Device) (r : Records) (h : Kept d r) where
     refl,
   )
   event-agrees Begun payload can = (begun-kept d r h (not-false (canBegin d) can), refl)
-  event-agrees Completed payload can = rw (ap (λ a. eqb a loopback) (acts d r h)) (by-mode (runs-some (not-false (runs d) can)) payload (eqb (r .settings .acting) loopback))
+  event-agrees Completed payload can = own-agrees (runs-some (not-false (runs d) can))
   event-agrees ArbitrationLost payload can = ((h .0, h .1, h .2, h .3, halted-boxed _ _ _ _ _ _ (h .4)), refl)
   event-agrees ElevenRecessive payload can = (
     (

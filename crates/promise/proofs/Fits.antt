@@ -3,7 +3,7 @@ use mathlib.Core.Path.{_≡_, refl}
 use mathlib.Core.Bool.{Bool, true, false, not}
 use Prim.Native.Nat.{ℕ, _<_, _≤_, _+_, _%_, _/_, _^_}
 use native.Mathlib.Omega.{arith}
-use borrow.Author.Tests.{lt-ltb, le-leb, ltb-true, leb-true, eqb-true, eqb-false, eq-eqb, ne-eqb, not-true}
+use borrow.Author.Tests.{lt-ltb, le-leb, ltb-true, leb-true, eqb-true, eqb-false, eq-eqb, not-true}
 use lib.Bits.{bitOr, or-lt}
 use lib.Dec.{eqb, leb, ltb}
 use Rattle.base.specs.Pick.{pick}
@@ -11,10 +11,7 @@ use Rattle.counters.specs.declared.Counters.{Counters}
 use Rattle.fifo.specs.declared.Fifo.{Fifo}
 use Rattle.fifo.specs.declared.Message.{Message}
 use Rattle.fifo.specs.Queue.{full, put}
-use Rattle.filter.specs.declared.Hit.{Hit}
-use Rattle.filter.specs.declared.Hit.the-variants.{Filter, Nothing}
-use Rattle.filter.specs.Lowest.{filhit}
-use Rattle.chip.specs.Proper.{filhitFits, sendingFits, actingFits}
+use Rattle.chip.specs.Proper.{sendingFits, actingFits}
 use Rattle.chip.specs.State.{modeOf, sleep, monitor, initialization, idle, alone}
 use Rattle.events.specs.declared.ErrorKind.{ErrorKind}
 use Rattle.events.specs.declared.ErrorKind.the-variants.{Stuff, Ack, Crc, Form, Bit}
@@ -59,11 +56,6 @@ named-fits acting ctrl0 wakes same = rw wakes (eq-eqb acting (modeOf ctrl0) same
 pub woken : (ctrl0 : ℕ) → modeOf (ctrl0 % 32 + 64) ≡ monitor
 unfolding modeOf
 woken ctrl0 = rw (lt-ltb (ctrl0 % 32 + 64) 128 (omega arith)) (omega arith)
-
-pub hit-fits : (found : Hit) → filhitFits (filhit found) ≡ true
-unfolding filhit
-hit-fits (Filter k) = rw (ne-eqb (8 + k % 8) 0 (λ e. omega arith), le-leb 8 (8 + k % 8) (omega arith), le-leb (8 + k % 8) 15 (omega arith))
-hit-fits Nothing = refl
 
 kind-below : (kind : ErrorKind) → errBit kind < 32
 unfolding errBit

@@ -38,7 +38,7 @@ Sums d r =
     × (d .regs .intf ≡ together (r .flags))
 
 abbrev pub Framed : Device → Records → Type 0
-Framed d r = (drop 1 (d .temp .bytes) ≡ drop 1 (message (r .latest) .bytes)) × (d .regs .filhit ≡ r .latest .filhit) × HoldsLedger (d .rx) (r .ledger) × Shown (r .latest)
+Framed d r = (drop 1 (d .temp .bytes) ≡ drop 1 (message (r .latest) .bytes)) × (d .regs .hits ≡ r .latest .hits) × HoldsLedger (d .rx) (r .ledger) × Shown (r .latest)
 
 abbrev pub Outgoing : Device → Records → Type 0
 Outgoing d r = Boxed (d .tx) (d .buffer) (d .sending) (d .history) (d .regs .mtag) (r .outbox)

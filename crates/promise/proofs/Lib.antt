@@ -24,6 +24,7 @@ pub mod CommandsKept
 pub mod Arrivals
 pub mod EventsKept
 pub mod Replies
+pub mod Questions
 pub mod After
 pub mod Worked
 pub mod Cases

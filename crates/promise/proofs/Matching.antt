@@ -1,20 +1,19 @@
 -- The filters match as the device's do. Assumes nothing.
 use mathlib.Core.Path.{_≡_, refl, _∙_, ap₂}
 use mathlib.Core.Bool.{Bool, true, _&&_, and-assoc, and-true}
-use mathlib.Core.List.{List, [], _∷_}
-use Prim.Native.Nat.{ℕ, zero, suc, _+_, _%_, _≤_}
-use native.Mathlib.Nat.{add-suc, suc-add, mod-eq-of-lt}
+use mathlib.Core.List.{List, [], _∷_, map}
+use Prim.Native.Nat.{ℕ, _+_}
 use native.Mathlib.Omega.{arith}
 use lib.Dec.{eqb}
 use lib.ListN.{getD}
 use Rattle.base.specs.Bit.{byte}
 use Rattle.base.specs.Pick.{pick}
-use Rattle.filter.specs.declared.Hit.the-variants.{Filter}
-use Rattle.filter.specs.Lowest.{lowestFrom as lowestOf, lowest, filhit}
+use Rattle.filter.specs.Hits.{setOf, hits, filhit}
 use Rattle.filter.specs.Match.{agree, bitFromTop, bitAtPlace, countedOf, matches as matchesBy}
 use Rattle.filter.proofs.Agree.{from, agree-more}
-use Rattle.promise.proofs.Choices.{pick-part}
-use Rattle.promise.specs.Filters.{all, eightBits, bitAgrees, matches, lowestFrom, filhitOf}
+use Rattle.filter.proofs.Sets.{set-alike}
+use Rattle.promise.specs.Filters.{all, eightBits, bitAgrees, matches, hitsOf}
+use Rattle.promise.specs.Hits.{eight, asBits, filhitOf}
 
 -- a byte's eight places
 byte-agrees : (x f m : ℕ) → agree 8 (bitFromTop x) (bitFromTop f) (bitFromTop m) ≡ all (bitAgrees x f m) eightBits
@@ -52,17 +51,19 @@ module _ (frame filter mask : List ℕ) where
       (next-byte 8 (x 32) (f 32) (m 32) (agreeing 5) _ (byte-agrees (byte frame 5) (byte filter 5) (byte mask 5))
       (next-byte 0 (x 40) (f 40) (m 40) (agreeing 6) true (byte-agrees (byte frame 6) (byte filter 6) (byte mask 6)) refl)))))
 
--- ---- and FILHIT is the same
+-- ---- and so do those that match, and FILHIT
 
-lowest-same : (n k : ℕ) (filters masks : List (List ℕ)) (frame : List ℕ) → k + n ≤ 8
-    → filhit (lowestOf n k filters masks frame) ≡ lowestFrom n k filters masks frame
-unfolding filhit
-lowest-same zero k filters masks frame few = refl
-lowest-same (suc n) k filters masks frame few =
-    let fits : k % 8 ≡ k = mod-eq-of-lt (omega (arith, add-suc k n)) in
-    pick-part filhit (matchesBy frame (getD filters k []) (getD masks k [])) (Filter k) (lowestOf n (suc k) filters masks frame)
-    ∙ rw (fits, matches-same frame (getD filters k []) (getD masks k []), lowest-same n (suc k) filters masks frame (omega (arith, suc-add k n, add-suc k n)))
+-- a digit for each, added up from either end
+bits-same : (says : ℕ → Bool) → setOf 8 says ≡ asBits (map says eight)
+bits-same says = omega arith
 
-pub filhit-same : (filters masks : List (List ℕ)) (frame : List ℕ) → filhit (lowest filters masks frame) ≡ filhitOf filters masks frame
-unfolding lowest filhitOf
-filhit-same filters masks frame = lowest-same 8 0 filters masks frame (omega arith)
+pub hits-same : (filters masks : List (List ℕ)) (frame : List ℕ) → hits filters masks frame ≡ hitsOf filters masks frame
+unfolding hits hitsOf
+hits-same filters masks frame =
+    set-alike 8 _ (λ k. matches frame (getD filters k []) (getD masks k []))
+    (λ k l. matches-same frame (getD filters k []) (getD masks k []))
+    ∙ bits-same (λ k. matches frame (getD filters k []) (getD masks k []))
+
+pub filhit-same : (set : ℕ) → filhit set ≡ filhitOf set
+unfolding filhit filhitOf
+filhit-same set = refl

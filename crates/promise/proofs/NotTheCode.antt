@@ -17,6 +17,7 @@ use Rattle.events.specs.declared.Event.the-variants.{Ticks}
 use Rattle.judged.specs.Judged
 use Rattle.bus.specs.declared.types.Outcome.{Outcome}
 use Rattle.bus.specs.Event
+use Rattle.bus.specs.Hits.{hits}
 use Rattle.bus.specs.Pins.{pins}
 use Rattle.bus.proofs as bus
 use Rattle.one.specs.Law.{Inputs, Model, stated, Satisfies, has-part}
@@ -65,10 +66,10 @@ told s = length (values (s .given))
 
 differ : (told (shipped fresh tick) ≡ 0) × (told (boasts fresh tick) ≡ 1)
 unfolding State.fresh Proper.proper Proper.registersInRange Proper.sendingInRange Proper.actingInRange State.modeOf Queue.empty Queue.inRange
-    Judged.impossible Judged.said Event.answer Event.event Event.valuesOf Event.reasonOf
+    Judged.impossible Judged.said Judged.nothing Judged.brought Event.answered Event.answer Event.event Event.valuesOf Event.reasonOf
 differ = (refl, refl)
 
-pub not-the-code : IsTheCode boasts pins fresh → ⊥
+pub not-the-code : IsTheCode boasts pins hits fresh → ⊥
 not-the-code code =
     ∥∥₁-elim (has-part (code M .1) arguments given satisfies) (λ x y. absurd x)
     (λ p. suc-ne-zero 0 (sym (differ .1) ∙ sym (ap told (p .1)) ∙ differ .0))

@@ -23,7 +23,7 @@ stays d (wire e payload) h =
 
 pub fresh-in : InRange fresh
 unfolding fresh modeOf
-fresh-in = (empty-fits, empty-fits, empty-fits, refl, refl, refl, refl, refl, refl)
+fresh-in = (empty-fits, empty-fits, empty-fits, refl, refl, refl, refl, refl)
 
 pub reached-in : (is : List Input) → InRange (run step fresh is)
 reached-in is = keeps (λ (u : Unit {0}) i given. u) (λ d u. InRange d) (λ d u i h. stays d i h) fresh tt is fresh-in

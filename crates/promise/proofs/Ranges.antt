@@ -12,7 +12,7 @@ use Rattle.fifo.specs.declared.Fifo.{Fifo}
 use Rattle.fifo.specs.declared.Message.{Message}
 use Rattle.fifo.specs.Queue.{empty, full, isEmpty, put, take, inRange}
 use Rattle.chip.specs.declared.Device.{Device}
-use Rattle.chip.specs.Proper.{filhitFits, registersInRange, sendingFits, sendingInRange, actingFits, actingInRange, proper}
+use Rattle.chip.specs.Proper.{registersInRange, sendingFits, sendingInRange, actingFits, actingInRange, proper}
 use Rattle.chip.specs.State.{modeOf, normal, loopback, monitor, sleep, initialization}
 use Rattle.promise.specs.Ranges.{runsFit, deviceInRange}
 use Rattle.promise.specs.Settings.{modeNamed}
@@ -63,26 +63,25 @@ proper-same d =
     (simp and-assoc)
 
 -- One range for each part, in this order: a change of other parts leaves it as it is.
-abbrev pub Ranges : Fifo → Fifo → Fifo → ℕ → ℕ → ℕ → ℕ → ℕ → ℕ → ℕ → Type 0
-Ranges rx tx history groups errs mtag filhit sending acting ctrl0 =
+abbrev pub Ranges : Fifo → Fifo → Fifo → ℕ → ℕ → ℕ → ℕ → ℕ → ℕ → Type 0
+Ranges rx tx history groups errs mtag sending acting ctrl0 =
     (inRange rx ≡ true)
     × (inRange tx ≡ true)
     × (inRange history ≡ true)
     × (leb groups 128 ≡ true)
     × (leb errs 31 ≡ true)
     × (leb mtag 3 ≡ true)
-    × (filhitFits filhit ≡ true)
     × (sendingFits sending (tx .count) ≡ true)
     × (actingFits acting ctrl0 ≡ true)
 
 abbrev pub InRange : Device → Type 0
 InRange d =
-    Ranges (d .rx) (d .tx) (d .history) (d .counters .groups) (d .regs .errs) (d .regs .mtag) (d .regs .filhit)
-    (d .sending) (d .acting) (d .regs .ctrl0)
+    Ranges (d .rx) (d .tx) (d .history) (d .counters .groups) (d .regs .errs) (d .regs .mtag) (d .sending)
+    (d .acting) (d .regs .ctrl0)
 
 pub ranges-proper : (d : Device) → InRange d → proper d ≡ true
 unfolding proper registersInRange sendingInRange actingInRange
-ranges-proper d h = rw (h .0, h .1, h .2, h .4, h .5, h .6, h .3, h .7, h .8)
+ranges-proper d h = rw (h .0, h .1, h .2, h .4, h .5, h .3, h .6, h .7)
 
 pub proper-ranges : (d : Device) → proper d ≡ true → InRange d
 unfolding proper registersInRange sendingInRange actingInRange
@@ -91,7 +90,6 @@ proper-ranges d ok =
     let history-on = and-right (inRange (d .tx)) _ tx-on in
     let registers-on = and-right (inRange (d .history)) _ history-on in
     let registers = and-left (registersInRange (d .regs)) _ registers-on in
-    let mtag-on = and-right (leb (d .regs .errs) 31) _ registers in
     let groups-on = and-right (registersInRange (d .regs)) _ registers-on in
     let sending-on = and-right (leb (d .counters .groups) 128) _ groups-on in (
       and-left (inRange (d .rx)) _ ok,
@@ -99,8 +97,7 @@ proper-ranges d ok =
       and-left (inRange (d .history)) _ history-on,
       and-left (leb (d .counters .groups) 128) _ groups-on,
       and-left (leb (d .regs .errs) 31) _ registers,
-      and-left (leb (d .regs .mtag) 3) _ mtag-on,
-      and-right (leb (d .regs .mtag) 3) _ mtag-on,
+      and-right (leb (d .regs .errs) 31) _ registers,
       and-left (sendingInRange d) _ sending-on,
       and-right (sendingInRange d) _ sending-on,
     )

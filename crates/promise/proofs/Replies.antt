@@ -1,17 +1,16 @@
 -- Each command shows what the records have. Assumes nothing.
 use mathlib.Core.Path.{_≡_, refl, sym, _∙_, ap}
-use mathlib.Core.Bool.{Bool, true, false, _&&_, _||_}
+use mathlib.Core.Bool.{false}
 use mathlib.Core.List.{List, [], _∷_, _++_, append-nil}
 use Prim.Native.Nat.{ℕ, zero, suc, _≤_, _<_, _+_, _-_, _%_}
 use native.Mathlib.Omega.{arith}
 use native.Mathlib.Nat.{zero-add, suc-add, le-of-suc-le-suc, not-suc-le-zero, mod-eq-of-lt}
-use borrow.Author.Tests.{le-leb, leb-true, eqb-true, eqb-false}
-use lib.Dec.{eqb, leb}
+use borrow.Author.Tests.{le-leb, leb-true, eqb-false}
+use lib.Dec.{eqb}
 use lib.ListN.{length, getD, take, drop, length-append, length-drop, length-replicate, drop-of-length-le, List·getD-map}
 use lib.Seq.{getD-take, getD-drop, length-take-le, take-at, drop-drop}
 use Rattle.base.specs.Pick.{among}
 use Rattle.base.specs.Tabulate.{tabulate}
-use Rattle.base.proofs.Booleans.{and-right}
 use Rattle.base.proofs.Lists.{listed, tabulate-same, drop-replicate}
 use Rattle.fifo.specs.declared.Message.{Message}
 use Rattle.fifo.specs.Queue.{next}
@@ -32,6 +31,7 @@ use Rattle.promise.specs.Held.{Banked, Entry, entryOf}
 use Rattle.promise.specs.Records.{Records}
 use Rattle.promise.specs.Registers.{statf, tstat, messtat, err, intf, replies, shown}
 use Rattle.promise.specs.Settings.{Settings, settingsOf, patterns, enables}
+use Rattle.promise.proofs.Matching.{filhit-same}
 use Rattle.promise.proofs.Among.{_and_}
 use Rattle.promise.proofs.Boxes.{rests-same, queue-length, history-length}
 use Rattle.promise.proofs.Each.{each-at}
@@ -39,7 +39,7 @@ use Rattle.promise.proofs.Kept.{Kept}
 use Rattle.promise.proofs.Queues.{Sized, message-sized, left-waits, oldest-next}
 use Rattle.promise.proofs.Ranges.{InRange}
 use Rattle.promise.proofs.Rows.{AtRows, at-row}
-use Rattle.promise.proofs.Shown.{zeros, zeros-behind}
+use Rattle.frame.proofs.Data.{zeros, zeros-behind}
 
 -- ---- bytes of a message
 
@@ -97,11 +97,6 @@ entry-shown m fits =
     rw (drop-of-length-le (m .bytes) (fits .1), append-nil (take 3 (m .bytes)))
     (padded-whole (take 3 (m .bytes)) 3 (length-take-le 3 (m .bytes) (fits .0)) (omega arith))
 
--- FILHIT is 0, or 8 to 15
-filhit-below : (t : Bool) (n : ℕ) → eqb n 0 ≡ t → (t || (leb 8 n && leb n 15)) ≡ true → n < 16
-filhit-below true n is fits = omega (arith, eqb-true n 0 is)
-filhit-below false n is fits = omega (arith, leb-true n 15 (and-right (leb 8 n) (leb n 15) fits))
-
 module _ (d : Device) (r : Records) (range : InRange d) (h : Kept d r) where
   -- ---- the registers that are drawn
 
@@ -128,9 +123,8 @@ module _ (d : Device) (r : Records) (range : InRange d) (h : Kept d r) where
   messtat-same : messtatOf d ≡ messtat r
   unfolding messtatOf messtat
   messtat-same =
-      let hit : d .regs .filhit % 16 ≡ d .regs .filhit = mod-eq-of-lt (filhit-below (eqb (d .regs .filhit) 0) (d .regs .filhit) refl (range .6)) in
       let tag : d .regs .mtag % 4 ≡ d .regs .mtag = mod-eq-of-lt (omega (arith, leb-true (d .regs .mtag) 3 (range .5))) in
-      rw (tstat-same, hit, tag, h .3 .1, h .4 .tag)
+      rw (tstat-same, tag, h .3 .1, filhit-same (r .latest .hits), h .4 .tag)
 
   -- ---- each command
 

@@ -11,6 +11,7 @@ use Rattle.frame.specs.Received.{received}
 use Rattle.frame.specs.Tables.{idBits, idAsRead}
 use Rattle.base.specs.Bit.{byte}
 use Rattle.base.specs.Pick.{pick, flag}
+use Rattle.bus.specs.Hits.{hits}
 use Rattle.bus.specs.Pins.{pins}
 use Rattle.chip.specs.declared.Device.{Device}
 use Rattle.chip.specs.State.{fresh}
@@ -21,12 +22,13 @@ use Rattle.promise.specs.Outbox.{Running, none, first, alone}
 use Rattle.promise.specs.Due.{Due}
 use Rattle.promise.specs.Held.{Each, Runs, Settled, Counted, Timed, Seen, Raised, Pinned, Whole, AsArrived, AsWritten}
 use Rattle.promise.specs.After.{recorded, After, Answers, Same, Onward}
+use Rattle.promise.specs.Questions.{Told}
 use Rattle.promise.specs.Records.{Records}
 use Rattle.promise.specs.Own.{ownMessage}
 use Rattle.promise.proofs.Cases.{Case, lost, undue, unsettled, miscounted, mistimed, unseen, unraised, unwritten, unlike, misshown, unlikeItself}
-use Rattle.promise.proofs.Cases.{misjudged, misanswered, changing, astray, cases}
+use Rattle.promise.proofs.Cases.{misjudged, misanswered, changing, mistold, astray, cases}
 use Rattle.promise.proofs.Queues.{Shown}
-use Rattle.promise.proofs.Sides.{alike, alike-self, allBytes, counts, settingBytes, levels, numbers, numbersDue, refusal, buffered, runningBytes, sides, differ}
+use Rattle.promise.proofs.Sides.{alike, alike-self, shownHits, allBytes, counts, settingBytes, levels, numbers, numbersDue, refusal, buffered, runningBytes, sides, differ}
 
 -- the promise that a case breaks
 abbrev pub Promise : Case → Type 0
@@ -44,7 +46,8 @@ Promise (unlikeItself w is) = After w AsArrived
 Promise (misjudged w d i) = First w
 Promise (misanswered w d i) = Answered w
 Promise (changing w d i) = Refused w
-Promise (astray w d r h i) = Onward w pins
+Promise (mistold ask is h count payload) = After shipped (Told ask)
+Promise (astray w d r h i) = Onward w pins hits
 
 -- ---- each promise makes its two sides equal
 
@@ -98,6 +101,7 @@ equal (unlikeItself w is) holds = first-shown (recorded w is .ledger .accepted) 
 equal (misjudged w d i) holds = ap (λ n. n ∷ []) (holds d i)
 equal (misanswered w d i) holds = ap (λ n. n ∷ []) (fits-refusal i (w d i .given) (holds d i .1))
 equal (changing w d i) holds = ap (λ n. n ∷ []) (left-count (eqb (numberGiven w d i) 0) d i (w d i) refl (holds d i))
+equal (mistold ask is h count payload) holds = ap shownHits (holds is h count payload)
 equal (astray w d r h i) holds = given-due r i (w d i .given) (holds d r h .1 i)
 
 -- ---- and in no case are they

@@ -2,22 +2,24 @@
 use mathlib.Core.Path.{_≡_, refl, sym, _∙_, ap}
 use mathlib.Core.Bool.{Bool, true, false, _&&_, and-assoc}
 use mathlib.Core.List.{List, [], _∷_, _++_, map}
-use Prim.Native.Nat.{ℕ, zero, suc, pred, _+_, _-_, _*_, _/_, _%_, _^_, _<_, _≤_, min}
+use Prim.Native.Nat.{ℕ, zero, suc, pred, _+_, _*_, _/_, _%_, _^_, _<_, _≤_, min}
 use native.Mathlib.Nat.{add-zero, div-one, mod-eq-of-lt}
 use native.Mathlib.Omega.{arith}
-use borrow.Author.Tests.{ltb-true, ltb-false, leb-true, leb-false}
+use borrow.Author.Tests.{leb-true, leb-false}
 use lib.Dec.{leb, ltb}
-use lib.ListN.{getD, take, replicate, length-take, List·getD-eq-default}
-use lib.Seq.{getD-take, getD-drop}
+use lib.ListN.{getD}
+use lib.Seq.{getD-drop}
 use Rattle.base.specs.Bit.{bits, byte}
 use Rattle.base.specs.Pick.{pick, flag}
 use Rattle.frame.specs.declared.Header.{Header}
 use Rattle.frame.specs.Length.{possible, dataFits, dataBytes, dataLength, dataOf}
 use Rattle.frame.specs.Received.{received}
 use Rattle.frame.specs.Tables.{idBits, idAsRead, compared as comparedBy}
+use Rattle.frame.proofs.Data.{data-has}
 use Rattle.frame.proofs.Parts.{id-fits, code-fits}
 use Rattle.frame.proofs.ReadBack.{data-back}
 use Rattle.promise.specs.Filters.{compared}
+use Rattle.promise.specs.Hits.{filhitOf}
 use Rattle.promise.specs.Frames.{Frame, blank, message, dataCount, canArrive, dataByte, identifierIn, Shows}
 
 -- ---- how many data bytes a frame has, and whether it can arrive
@@ -36,30 +38,8 @@ arrives-same h count = rw (count-same h) (simp and-assoc)
 
 -- ---- its data
 
--- zeros behind a list show nothing that reading past its end doesn't
-abbrev pub zeros : ℕ → List ℕ
-zeros n = replicate n 0
-
-zeros-at : (n k : ℕ) → _≡_ {A = ℕ} (getD (zeros n) k 0) 0
-zeros-at zero k = refl
-zeros-at (suc n) zero = refl
-zeros-at (suc n) (suc k) = zeros-at n k
-
-pub zeros-behind : (xs : List ℕ) (n k : ℕ) → getD (xs ++ zeros n) k 0 ≡ getD xs k 0
-zeros-behind [] n k = zeros-at n k
-zeros-behind (x ∷ xs) n zero = refl
-zeros-behind (x ∷ xs) n (suc k) = zeros-behind xs n k
-
--- the first n of a list, and nothing past them
-first-of : (t : Bool) (n i : ℕ) (xs : List ℕ) → ltb i n ≡ t → getD (take n xs) i 0 ≡ pick t (getD xs i 0) 0
-first-of true n i xs below = getD-take n xs i 0 (ltb-true i n below)
-first-of false n i xs above = List·getD-eq-default (take n xs) 0 (omega (arith, length-take n xs, ltb-false i n above))
-
 pub data-at : (h : Header) (payload : List ℕ) (i : ℕ) → getD (dataOf h payload) i 0 ≡ pick (ltb i (dataCount h)) (getD payload i 0) 0
-unfolding dataOf
-data-at h payload i =
-    rw (← count-same h)
-    (zeros-behind (take (dataBytes h) payload) (8 - dataBytes h) i ∙ first-of (ltb i (dataBytes h)) (dataBytes h) i payload refl)
+data-at h payload i = rw (← count-same h) (data-has h payload i)
 
 module _ (h : Header) (payload : List ℕ) (time hit : ℕ) where
   data-shown : (k : ℕ) → 1 ≤ k → k ≤ 8 → byte (received h payload time hit) (8 + k) ≡ dataByte h payload k
@@ -115,7 +95,7 @@ shows-fields f ok =
       time = refl;
       identifier = identifier-laid h (flag (h .extended)) (flag (h .remote)) ok;
       code = mod-eq-of-lt (omega (arith, code-fits h ok));
-      bytes = data-shown h (f .payload) (f .time) (f .filhit);
+      bytes = data-shown h (f .payload) (f .time) (filhitOf (f .hits));
     }
 
 pub blank-shown : Shows blank (message blank .bytes)

@@ -16,7 +16,7 @@ use Rattle.fifo.specs.Queue
 use Rattle.frame.specs.Length
 use Rattle.frame.specs.Received
 use Rattle.frame.specs.Tables
-use Rattle.filter.specs.Lowest
+use Rattle.filter.specs.Hits as FilterHits
 use Rattle.filter.specs.Match
 use Rattle.levels.specs.Levels
 use Rattle.to_send.specs.ToSend
@@ -33,6 +33,7 @@ use Rattle.judged.specs.Judged
 use Rattle.changed.specs.Changed
 use Rattle.bus.specs.declared.types.Pins.{Pins}
 use Rattle.bus.specs.Event
+use Rattle.bus.specs.Hits as BusHits
 use Rattle.bus.specs.Pins
 use Rattle.commands.specs.Table
 use Rattle.refused.specs.Refused
@@ -42,6 +43,7 @@ use Rattle.host.specs.Transfer
 use Rattle.promise.specs.Sequence.{Input, spi, wire, Given, replied, answered, shipped, number, values, run, conversation}
 use Rattle.promise.specs.Commands
 use Rattle.promise.specs.Filters
+use Rattle.promise.specs.Hits
 use Rattle.promise.specs.Ranges
 use Rattle.promise.specs.Flags.{together}
 use Rattle.promise.specs.Frames.{blank, message, identifierRead}
@@ -59,8 +61,11 @@ use Rattle.promise.specs.Registers
 use Rattle.promise.specs.Registers.{shown, pinsShown}
 use Rattle.promise.specs.Settings
 use Rattle.promise.specs.Settings.{Settings, settingsOf}
+use Rattle.bus.specs.declared.types.Hits.{Hits as HitsGiven}
+use Rattle.promise.specs.Arrivals.{matching}
+use Rattle.promise.specs.Questions.{unlessImpossible}
 use Rattle.promise.proofs.Cases.{Case, lost, undue, unsettled, miscounted, mistimed, unseen, unraised, unwritten, unlike, misshown, unlikeItself}
-use Rattle.promise.proofs.Cases.{misjudged, misanswered, changing, astray, cases}
+use Rattle.promise.proofs.Cases.{misjudged, misanswered, changing, mistold, astray, cases}
 
 -- ---- lists of numbers that differ
 
@@ -127,6 +132,10 @@ runningBytes none = []
 runningBytes (first m) = ownMessage m .bytes
 runningBytes (alone m) = ownMessage m .bytes
 
+-- a question's number, and the set
+abbrev pub shownHits : HitsGiven → List ℕ
+shownHits given = given .number ∷ given .set ∷ []
+
 -- what the device comes to, and what its promise says
 abbrev pub sides : Case → List ℕ × List ℕ
 sides (lost w is) = (
@@ -155,6 +164,10 @@ sides (unlikeItself w is) = (
 sides (misjudged w d i) = (numberGiven w d i ∷ [], numberDue (situation d) i ∷ [])
 sides (misanswered w d i) = (refusal (w d i .given) ∷ [], flag (not (eqb (number (w d i .given)) 0)) ∷ [])
 sides (changing w d i) = (pick (eqb (numberGiven w d i) 0) (d .rx .count) (w d i .device .rx .count) ∷ [], d .rx .count ∷ [])
+sides (mistold ask is h count payload) = (
+  shownHits (ask (run shipped fresh is) h count payload),
+  shownHits (unlessImpossible h count (matching (recorded shipped is .settings) h payload)),
+)
 sides (astray w d r holds i) = (numbers i (w d i .given), numbersDue r i)
 
 pub differ : map (λ c. alike (sides c .0) (sides c .1)) cases ≡ replicate (length cases) false
@@ -163,18 +176,18 @@ unfolding Transfer.transfer Transfer.replyAfter Refused.lengthFits Refused.setsU
     Proper.proper State.modeOf State.fresh State.enabled State.bank Queue.empty Queue.put Queue.take Queue.next Queue.inRange Table.rows
     ToSend.headerToSend ToSend.rightLength ToSend.messageOf ToSend.stored Done.pattern Done.registersAfter Done.registerChanged Done.messageTaken
     Done.entryTaken Done.receiveCleared Done.timeReset Done.messageWritten Done.filterWritten Done.maskWritten Done.recWritten Done.tecWritten
-    Done.does Modes.modeChanged Modes.ctrl0Written Modes.canSleep Modes.busQuiet Modes.busActivity Flags.raised Flags.busError Reset.reset Receive.hit
-    Receive.queuedUnlessFull Receive.passed Receive.byHit Receive.filtersAndRoom Receive.isQueued Receive.queuedFlag Receive.filterFlag Receive.queueAfter
-    Receive.arrived Lowest.lowest Lowest.filhit Match.matches Length.dataLength Length.dataBytes Length.possible Length.dataFits Length.dataOf
-    Ranges.deviceInRange Filters.filhitOf Received.received Received.headerIn Tables.idBits Tables.idToSend Tables.idAsRead Tables.compared Judged.quietMode Judged.noErrors Judged.runs
-    Judged.impossibleFrame Judged.impossible Judged.takesNoFrames Judged.unacknowledged Judged.reason Judged.echo Judged.said Changed.errBit
-    Changed.countedFrame Changed.heard Changed.reachesTemporary Changed.frameAfter Changed.countedReceiveError Changed.receiveErrorMet Changed.dominantMet
-    Changed.countedTransmitError Changed.transmitErrorMet Changed.echoed Changed.recessiveMet Changed.ticked Changed.pinSet Changed.arrival Changed.after
-    Event.numberOf Event.reasonOf Event.valuesOf Event.answer Event.event Rules.receiveError Rules.dominantBit Rules.goodFrame Rules.transmitError
+    Done.does Modes.modeChanged Modes.ctrl0Written Modes.canSleep Modes.busQuiet Modes.busActivity Flags.raised Flags.busError Reset.reset Receive.matching
+    Receive.hits Receive.ownFrame Receive.filtersAndRoom Receive.isQueued Receive.queuedFlag Receive.filterFlag Receive.queueAfter
+    Receive.arrived FilterHits.hits FilterHits.filhit Match.matches Length.dataLength Length.dataBytes Length.possible Length.dataFits Length.dataOf
+    Ranges.deviceInRange Filters.hitsOf Hits.filhitOf Received.received Received.headerIn Tables.idBits Tables.idToSend Tables.idAsRead Tables.compared Judged.quietMode Judged.noErrors Judged.runs
+    Judged.impossibleFrame Judged.impossible Judged.takesNoFrames Judged.unacknowledged Judged.reason Judged.said Judged.fromTheBus Judged.nothing Judged.brought Changed.errBit
+    Changed.countedFrame Changed.heard Changed.taken Changed.reachesTemporary Changed.countedReceiveError Changed.receiveErrorMet Changed.dominantMet
+    Changed.countedTransmitError Changed.transmitErrorMet Changed.recessiveMet Changed.ticked Changed.pinSet Changed.arrival Changed.after
+    Event.numberOf Event.reasonOf Event.valuesOf Event.answered Event.answer Event.event BusHits.hits Rules.receiveError Rules.dominantBit Rules.goodFrame Rules.transmitError
     Rules.completed Rules.elevenRecessive Rules.testRec Rules.testTec Transmit.sends Transmit.canBegin Transmit.withoutTx1m Transmit.ctrl1Begun
     Transmit.begun Transmit.stopped Transmit.aborted Transmit.leftAlone Transmit.cleared Transmit.stamped Transmit.fifoAfter
     Transmit.countedCompletion Transmit.transmitted Shown.cut Shown.register Shown.shows
-    Drawn.int Drawn.stat Drawn.gp Drawn.statf Levels.errw Levels.errp Levels.rxerrp Levels.txerrp Levels.groupsShown Levels.tecShown Pins.pins
+    Drawn.int Drawn.stat Drawn.gp Drawn.tstat Drawn.messtat Drawn.statf Levels.errw Levels.errp Levels.rxerrp Levels.txerrp Levels.groupsShown Levels.tecShown Pins.pins
     Commands.isCommand Commands.lengthsOf Commands.setsUp Commands.transferFits Numbers.findsNone Numbers.cannotBe Numbers.numberDue
     Noted.happened Noted.commanded Registers.intf Registers.err Registers.statf Registers.messtat Registers.shown Settings.modeNamed
 differ = refl

@@ -13,8 +13,10 @@ use Rattle.chip.specs.Proper.{proper}
 use Rattle.events.specs.declared.Event.{Event}
 use Rattle.judged.specs.declared.Answer.{Answer}
 use Rattle.judged.specs.declared.Answer.the-variants.{Refused as RefusedEvent}
-use Rattle.judged.specs.Judged.{impossible, said}
-use Rattle.bus.specs.Event.{answer, outcome, event}
+use Rattle.judged.specs.Judged.{impossible, said, brought}
+use Rattle.bus.specs.declared.types.Outcome.{Outcome}
+use Rattle.receive.specs.Receive.{hits}
+use Rattle.bus.specs.Event.{answered as answeredBy, answer, outcome, event}
 use Rattle.commands.specs.declared.Found.{Found}
 use Rattle.commands.specs.declared.Found.the-variants.{At, Nothing}
 use Rattle.commands.specs.declared.Row.{Row}
@@ -117,8 +119,15 @@ by-transfer P d bytes buffer no-way way =
 abbrev pub refusedEvent : Device → ℕ → Step
 refusedEvent d n = record { device = d; given = answered (RefusedEvent n) }
 
+-- by what it brings, and the filters that this hits
+abbrev pub saidOf : Device → Event → List ℕ → Answer
+saidOf d e payload = let b = brought d e payload in said d b (hits d b)
+
+abbrev pub outcomeOf : Device → Event → List ℕ → Answer → Outcome
+outcomeOf d e payload a = let b = brought d e payload in outcome d e b (hits d b) a
+
 abbrev pub doneEvent : Device → Event → List ℕ → Answer → Step
-doneEvent d e payload a = record { device = outcome d e payload a .device; given = answered (outcome d e payload a .answer) }
+doneEvent d e payload a = record { device = outcomeOf d e payload a .device; given = answered (outcomeOf d e payload a .answer) }
 
 by-checks : (P : Step → Type 0) (d : Device) (e : Event) (payload : List ℕ) (p q : Bool) (a : Answer)
     → ((n : ℕ) → eqb n 0 ≡ false → P (refusedEvent d n))
@@ -130,7 +139,7 @@ by-checks P d e payload false q a no-way way = no-way 1 refl
 
 pub by-event : (P : Step → Type 0) (d : Device) (e : Event) (payload : List ℕ)
     → ((n : ℕ) → eqb n 0 ≡ false → P (refusedEvent d n))
-    → (impossible d e ≡ false → P (doneEvent d e payload (said d e payload)))
+    → (impossible d e ≡ false → P (doneEvent d e payload (saidOf d e payload)))
     → P (step d (wire e payload))
-unfolding event answer
-by-event P d e payload no-way way = by-checks P d e payload (proper d) (impossible d e) (said d e payload) no-way way
+unfolding event answer answeredBy
+by-event P d e payload no-way way = by-checks P d e payload (proper d) (impossible d e) (saidOf d e payload) no-way way

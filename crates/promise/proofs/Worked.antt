@@ -5,11 +5,11 @@ use Rattle.levels.specs.Levels.{errw, errp, rxerrp, txerrp}
 use Rattle.frame.specs.Length.{dataLength}
 use Rattle.frame.specs.Tables.{idBits, idToSend}
 use Rattle.filter.specs.Match.{matches}
-use Rattle.filter.specs.Lowest.{lowest, filhit}
+use Rattle.filter.specs.Hits.{hits, filhit, howMany}
 use Rattle.chip.specs.State.{modeOf}
 use Rattle.changed.specs.Changed.{ticked}
 use Rattle.promise.specs.Promises.{TheWorkedNumbersHold}
 
 pub worked : TheWorkedNumbersHold
-unfolding dataLength idBits idToSend matches lowest filhit receiveError goodFrame transmitError completed errw errp rxerrp txerrp modeOf ticked
+unfolding dataLength idBits idToSend matches hits filhit howMany receiveError goodFrame transmitError completed errw errp rxerrp txerrp modeOf ticked
 worked = refl

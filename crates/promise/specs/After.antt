@@ -8,6 +8,7 @@ use Rattle.promise.specs.Sequence.{Input, Machine, run, conversation}
 use Rattle.promise.specs.Due.{Due}
 use Rattle.promise.specs.Held.{Pinned, Holds}
 use Rattle.promise.specs.Noted.{noted, byTheRules, byTheAnswers, recordsBy, records}
+use Rattle.promise.specs.Questions.{Question, Told}
 use Rattle.promise.specs.Records.{Records}
 
 module _ (step : Machine) where
@@ -30,9 +31,10 @@ module _ (step : Machine) where
   abbrev pub Same : Type 0
   Same = (is : List Input) → recordsBy byTheAnswers (conversation step fresh is) ≡ recorded is
 
-  -- In any device that holds what some records have, the pins show them, an input gets the answer that it is due, and
-  -- the device after it holds what they then have.
-  abbrev pub Onward : (Device → Pins) → Type 0
-  Onward look = (d : Device) (r : Records) → Holds d r
+  -- In any device that holds what some records have, the pins show them, an input gets the answer that it is due, the
+  -- device after it holds what they then have, and the filters are told as they stand in them.
+  abbrev pub Onward : (Device → Pins) → Question → Type 0
+  Onward look ask = (d : Device) (r : Records) → Holds d r
       → Pinned look d r × Answers d r
       × ((i : Input) → Holds (step d i .device) (noted byTheRules r i (step d i .given)))
+      × Told ask d r

@@ -10,7 +10,7 @@ use Rattle.events.specs.declared.Event.{Event}
 use Rattle.events.specs.declared.Event.the-variants.{GoodFrame, ReceiveError, DominantBit, TransmitError, Begun}
 use Rattle.events.specs.declared.Event.the-variants.{Completed, ArbitrationLost, ElevenRecessive, BusQuiet, BusActivity}
 use Rattle.events.specs.declared.Event.the-variants.{Ticks, TxenPin, MrPin, Unknown}
-use Rattle.promise.specs.Filters.{compared, filhitOf}
+use Rattle.promise.specs.Filters.{compared, hitsOf}
 use Rattle.promise.specs.Frames.{Frame}
 use Rattle.promise.specs.Ledger.{Ledger, left}
 use Rattle.promise.specs.Outbox.{inFlight}
@@ -21,16 +21,20 @@ use Rattle.promise.specs.Settings.{loopback, monitor, sleep, initializat
 abbrev pub time : Records → ℕ
 time r = r .ticks % 65536
 
--- "FILHIT shows the lowest match …; with FILTON at 0 it is 0000"
-abbrev pub filhitNow : Settings → Header → List ℕ → ℕ
-filhitNow s h payload = pick (filton s) (filhitOf (s .filters) (s .masks) (compared h payload)) 0
+-- the filters that match a frame, whether FILTON is on or not
+abbrev pub matching : Settings → Header → List ℕ → ℕ
+matching s h payload = hitsOf (s .filters) (s .masks) (compared h payload)
+
+-- those that it hits: "with FILTON at 0" FILHIT "is 0000", since none is asked
+abbrev pub hitsNow : Settings → Header → List ℕ → ℕ
+hitsNow s h payload = pick (filton s) (matching s h payload) 0
 
 abbrev pub arriving : Records → Header → List ℕ → Frame
 arriving r h payload = record {
   header = h;
   payload = payload;
   time = time r;
-  filhit = filhitNow (r .settings) h payload;
+  hits = hitsNow (r .settings) h payload;
 }
 
 -- the own message that runs, as a frame
@@ -59,7 +63,7 @@ fromTheBus acting busoff acknowledged =
 
 -- "A4 filtering is on and no filter matches; A5 eight messages wait": room is counted here
 abbrev pub reasons : Bool → Ledger → Frame → List Reason → List Reason
-reasons filton l f earlier = earlier ++ (filton && eqb (f .filhit) 0, 4) ∷ (leb 8 (left l), 5) ∷ []
+reasons filton l f earlier = earlier ++ (filton && eqb (f .hits) 0, 4) ∷ (leb 8 (left l), 5) ∷ []
 
 -- ---- what an event brings, and what it is told
 

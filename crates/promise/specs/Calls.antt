@@ -5,12 +5,14 @@
 -- What lent memory held at the call is `now`.
 use denote.Ref.{now}
 use Rattle.chip.specs.declared.Device.{Device}
+use Rattle.bus.specs.declared.types.Hits.{Hits}
 use Rattle.bus.specs.declared.types.Pins.{Pins}
 use Rattle.bus.proofs as bus
 use Rattle.chip.proofs as chip
 use Rattle.host.proofs as host
 use Rattle.one.specs.Law.{Inputs, Outcome, Equates}
 use Rattle.one.specs.Shapes.{at}
+use Rattle.promise.specs.Questions.{Question}
 use Rattle.promise.specs.Sequence.{spi, wire, Given, replied, answered, Step, Machine}
 
 module _ (M : Type 1) (step : Machine) where
@@ -41,12 +43,18 @@ module _ (M : Type 1) where
   Looks look =
       Equates M bus.pins.ended bus.pins.spec (λ a. Pins) (λ a x. x .0) (at bus.pins.ended Pins (λ lifetimes d. look d))
 
+  -- `bus::hits(d, h, given, payload)`
+  abbrev pub Tells : Question → Type 2
+  Tells ask =
+      Equates M bus.hits.ended bus.hits.spec (λ a. Hits) (λ a x. x .0)
+      (at bus.hits.ended Hits (λ lifetimes d h given payload. ask d h given payload))
+
   -- `chip::fresh()`
   abbrev pub Begins : Device → Type 2
   Begins first =
       Equates M chip.fresh.ended chip.fresh.spec (λ a. Device) (λ a x. x .0)
       (at chip.fresh.ended Device (λ lifetimes. first))
 
-abbrev pub IsTheCode : Machine → (Device → Pins) → Device → Type 2
-IsTheCode step look first =
-    (M : Type 1) → Transfers M step × Events M step × Asked M step × Looks M look × Begins M first
+abbrev pub IsTheCode : Machine → (Device → Pins) → Question → Device → Type 2
+IsTheCode step look ask first =
+    (M : Type 1) → Transfers M step × Events M step × Asked M step × Looks M look × Tells M ask × Begins M first

@@ -1,14 +1,15 @@
--- The filters: what they are held against, when one matches, and what FILHIT then is (01, Modes and filters; 000,
--- Tables 4a and 4b).
+-- The filters: what they are held against, when one matches, and which do (01, Modes and filters; 000, Tables 4a and
+-- 4b; 02, c)).
 use mathlib.Core.Bool.{Bool, true, _&&_, _||_}
 use mathlib.Core.List.{List, [], _∷_, _++_, map}
-use Prim.Native.Nat.{ℕ, zero, suc, _+_}
+use Prim.Native.Nat.{ℕ}
 use lib.Dec.{eqb}
 use lib.ListN.{getD}
 use Rattle.base.specs.Bit.{bit, byte}
-use Rattle.base.specs.Pick.{pick, flag}
+use Rattle.base.specs.Pick.{flag}
 use Rattle.frame.specs.declared.Header.{Header}
 use Rattle.promise.specs.Frames.{dataByte, identifierIn}
+use Rattle.promise.specs.Hits.{eight, asBits}
 
 -- 4a: the identifier with RTR beside IDE, "and the first two data bytes"; "bits and bytes that a frame lacks compare as
 -- zero"
@@ -36,11 +37,6 @@ abbrev pub matches : List ℕ → List ℕ → List ℕ → Bool
 matches frame filter mask =
     all (λ c. all (bitAgrees (byte frame (c .0)) (byte filter (c .0)) (byte mask (c .0))) (c .1)) counted
 
--- of n filters from number k on: "the lowest match, 1000 for filter 0 to 1111 for filter 7, else 0000"
-abbrev pub lowestFrom : ℕ → ℕ → List (List ℕ) → List (List ℕ) → List ℕ → ℕ
-lowestFrom zero k filters masks frame = 0b0000
-lowestFrom (suc n) k filters masks frame =
-    pick (matches frame (getD filters k []) (getD masks k [])) (0b1000 + k) (lowestFrom n (suc k) filters masks frame)
-
-unfoldable pub filhitOf : List (List ℕ) → List (List ℕ) → List ℕ → ℕ
-filhitOf filters masks frame = lowestFrom 8 0 filters masks frame
+-- 02: "which filters match, as one byte, a bit for each filter"
+unfoldable pub hitsOf : List (List ℕ) → List (List ℕ) → List ℕ → ℕ
+hitsOf filters masks frame = asBits (map (λ k. matches frame (getD filters k []) (getD masks k [])) eight)

@@ -9,24 +9,25 @@ use Rattle.base.specs.Pick.{pick, flag}
 use Rattle.fifo.specs.declared.Message.{Message}
 use Rattle.frame.specs.declared.Header.{Header}
 use Rattle.frame.specs.Received.{received}
+use Rattle.promise.specs.Hits.{filhitOf}
 
 pub record Frame : Type 0 where
   pub header : Header
   pub payload : List ℕ
-  -- the time tag and FILHIT at its arrival
+  -- the time tag at its arrival, and the filters that it hit then
   pub time : ℕ
-  pub filhit : ℕ
+  pub hits : ℕ
 
 -- where none came: its message is all zeros
 abbrev pub blankHeader : Header
 blankHeader = record { id = 0; extended = false; remote = false; code = 0 }
 
 abbrev pub blank : Frame
-blank = record { header = blankHeader; payload = []; time = 0; filhit = 0 }
+blank = record { header = blankHeader; payload = []; time = 0; hits = 0 }
 
 -- its sixteen bytes by Table 5, "what it says of the message fixed when stored"
 abbrev pub message : Frame → Message
-message f = record { bytes = received (f .header) (f .payload) (f .time) (f .filhit) }
+message f = record { bytes = received (f .header) (f .payload) (f .time) (filhitOf (f .hits)) }
 
 -- "Length codes 0 to 8 mean that many bytes and 9 to 15 mean eight"; "A remote frame has none."
 abbrev pub dataCount : Header → ℕ
@@ -59,7 +60,7 @@ identifierRead h = identifierIn h (flag (h .extended)) (flag (h .remote))
 -- "2 and 3 the time tag; 4 to 7 the identifier; 8 the length code; 9 to 16 the data", as they were given, and zeros
 -- behind them.
 pub record Shows (f : Frame) (m : List ℕ) : Type 0 where
-  pub kind : byte m 1 ≡ flag (f .header .extended) * 128 + f .filhit % 8
+  pub kind : byte m 1 ≡ flag (f .header .extended) * 128 + filhitOf (f .hits) % 8
   pub time : map (byte m) (2 ∷ 3 ∷ []) ≡ f .time / 256 ∷ f .time % 256 ∷ []
   pub identifier : map (byte m) (4 ∷ 5 ∷ 6 ∷ 7 ∷ []) ≡ identifierRead (f .header)
   pub code : byte m 8 ≡ f .header .code

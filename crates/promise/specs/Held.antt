@@ -72,9 +72,9 @@ AsWritten d r =
 
 -- ---- the whole of it
 
--- the temporary buffer, of which nothing shows byte 1, and FILHIT
+-- the temporary buffer, of which nothing shows byte 1, and the filters that its frame hit
 abbrev pub Latest : Device → Records → Type 0
-Latest d r = (drop 1 (d .temp .bytes) ≡ drop 1 (message (r .latest) .bytes)) × (d .regs .filhit ≡ r .latest .filhit)
+Latest d r = (drop 1 (d .temp .bytes) ≡ drop 1 (message (r .latest) .bytes)) × (d .regs .hits ≡ r .latest .hits)
 
 -- an entry of the history has a tag and a time tag; MTAG is of the tag last sent
 abbrev pub entryOf : Message → List ℕ

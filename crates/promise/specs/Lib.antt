@@ -1,5 +1,6 @@
 pub mod Sequence
 pub mod Calls
+pub mod Hits
 pub mod Frames
 pub mod Filters
 pub mod Own
@@ -18,8 +19,10 @@ pub mod Ranges
 pub mod Numbers
 pub mod Due
 pub mod Held
+pub mod Questions
 pub mod After
 pub mod Worked
 pub mod Wrong
 pub mod WrongRegisters
+pub mod WrongQuestions
 pub mod Promises

@@ -16,6 +16,7 @@ use Rattle.promise.specs.Arrivals.{time, arriving, own, valuesDue}
 use Rattle.promise.specs.Sequence.{Input, spi, wire, Given, Exchange, values, done}
 use Rattle.promise.specs.Commands.{messageReads, sameFor}
 use Rattle.promise.specs.Frames.{Frame, blank}
+use Rattle.promise.specs.Hits.{filhitOf}
 use Rattle.promise.specs.Records.{Records, start, with-settings, with-counters, with-ticks, with-kinds}
 use Rattle.promise.specs.Records.{with-flags, with-ledger, with-latest, with-outbox}
 use Rattle.promise.specs.Settings.{loopback, sleep, Settings, resetTo, modeWritten, asleep, awake, disabled}
@@ -82,7 +83,8 @@ abbrev pub arrivalMet : Records → Frame → ℕ → Records
 arrivalMet r f told =
     with-flags
     (with-ledger (with-latest r f) (pick (eqb told 0) (accepts (r .ledger) f) (r .ledger)))
-    (raise (eqb (f .filhit) 9) f1mess (raise (eqb (f .filhit) 8) f0mess (raise (eqb told 0) rxfifo (rxtmp ∷ r .flags))))
+    (raise (eqb (filhitOf (f .hits)) 0b1001) f1mess
+    (raise (eqb (filhitOf (f .hits)) 0b1000) f0mess (raise (eqb told 0) rxfifo (rxtmp ∷ r .flags))))
 
 -- one from the bus; one that isn't taken is bus activity
 abbrev pub frameMet : Records → Frame → ℕ → Records

@@ -1,18 +1,20 @@
 -- What is promised of the device that is shipped: a line for each promise, which the file named above its group says in
 -- full. docs/PROMISES.md tells them in plain words.
+use Rattle.bus.specs.Hits.{hits}
 use Rattle.bus.specs.Pins.{pins}
 use Rattle.chip.specs.State.{fresh}
 use Rattle.promise.specs.Sequence.{shipped}
 use Rattle.promise.specs.Calls.{IsTheCode}
 use Rattle.promise.specs.Numbers.{Answered, First, Exactly, Refused, NeverOne}
 use Rattle.promise.specs.Held.{Settled, Counted, Timed, Seen, Raised, Pinned, Whole, AsArrived, AsWritten}
+use Rattle.promise.specs.Questions.{InEveryDevice, Told}
 use Rattle.promise.specs.After.{After, Answers, Same, Onward}
 use Rattle.promise.specs.Worked.{Worked}
 
 -- ---- what they speak of (Calls)
 
 abbrev pub TheMachineIsTheCode : Type 2
-TheMachineIsTheCode = IsTheCode shipped pins fresh
+TheMachineIsTheCode = IsTheCode shipped pins hits fresh
 
 -- ---- demand 1 (Numbers)
 
@@ -30,6 +32,14 @@ ARefusalChangesNothing = Refused shipped
 
 abbrev pub OneIsNeverGiven : Type 0
 OneIsNeverGiven = NeverOne shipped
+
+-- ---- and of the question which filters match (Questions)
+
+abbrev pub EveryQuestionIsAnswered : Type 0
+EveryQuestionIsAnswered = InEveryDevice hits
+
+abbrev pub TheFiltersAreToldAsWritten : Type 0
+TheFiltersAreToldAsWritten = After shipped (Told hits)
 
 -- ---- demands 2 and 3, over every sequence (Due, Held, After)
 
@@ -69,7 +79,7 @@ TheAnswersKeepTheRecords = Same shipped
 -- ---- and in any device (After)
 
 abbrev pub AnyDeviceGoesOnSo : Type 0
-AnyDeviceGoesOnSo = Onward shipped pins
+AnyDeviceGoesOnSo = Onward shipped pins hits
 
 -- ---- 01's worked numbers (Worked)
 

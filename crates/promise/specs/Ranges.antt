@@ -1,6 +1,6 @@
 -- 1: "the state handed in has a count, place or field outside its range" (01, Numbers given back; docs/DECISIONS.md,
 -- 41).
-use mathlib.Core.Bool.{Bool, true, false, _&&_, _||_}
+use mathlib.Core.Bool.{Bool, true, false, _&&_}
 use mathlib.Core.List.{[], _∷_}
 use Prim.Native.Nat.{ℕ}
 use lib.Dec.{eqb, leb, ltb}
@@ -13,10 +13,6 @@ use Rattle.promise.specs.Settings.{sleep, initialization, modeNamed}
 -- eight places, and at most eight messages
 abbrev pub queueFits : Fifo → Bool
 queueFits q = ltb (q .first) 8 && leb (q .count) 8
-
--- "1000 for filter 0 to 1111 for filter 7, else 0000"
-abbrev pub filhitFits : ℕ → Bool
-filhitFits n = eqb n 0b0000 || (leb 0b1000 n && leb n 0b1111)
 
 -- none runs, or the first of those that wait, or one that 0x54 left alone
 abbrev pub runsFit : ℕ → ℕ → Bool
@@ -34,7 +30,6 @@ deviceInRange d =
     (queueFits (d .history) &&
     (leb (d .regs .errs) 0b11111 &&
     (leb (d .regs .mtag) 0b11 &&
-    (filhitFits (d .regs .filhit) &&
     (leb (d .counters .groups) 128 &&
     (runsFit (d .sending) (d .tx .count) &&
-    actsFit (d .acting) (d .regs .ctrl0))))))))
+    actsFit (d .acting) (d .regs .ctrl0)))))))

@@ -13,6 +13,7 @@ use Rattle.bus.specs.declared.types.Pins.{Pins}
 use Rattle.promise.specs.Commands.{filterReads, maskReads, numbered}
 use Rattle.promise.specs.Flags.{together}
 use Rattle.promise.specs.Frames.{Frame, message}
+use Rattle.promise.specs.Hits.{filhitOf}
 use Rattle.promise.specs.Ledger.{left, oldest}
 use Rattle.promise.specs.Outbox.{rests}
 use Rattle.promise.specs.Arrivals.{time}
@@ -64,7 +65,7 @@ tstat r =
 
 -- FILHIT3..0 of the latest frame, MTAG1..0, TSTAT1..0
 unfoldable pub messtat : Records → ℕ
-messtat r = r .latest .filhit * 16 + r .outbox .mtag * 4 + tstat r
+messtat r = filhitOf (r .latest .hits) * 16 + r .outbox .mtag * 4 + tstat r
 
 -- ---- what each command shows
 

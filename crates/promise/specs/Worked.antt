@@ -11,7 +11,7 @@ use Rattle.counters.specs.Rules.{zeroed, with-rec, with-tec, receiveError, good
 use Rattle.levels.specs.Levels.{errw, errp}
 use Rattle.frame.specs.Length.{dataLength}
 use Rattle.frame.specs.Tables.{idToSend}
-use Rattle.filter.specs.Lowest.{lowest, filhit}
+use Rattle.filter.specs.Hits.{hits, filhit, howMany}
 use Rattle.chip.specs.Parts.{with-time}
 use Rattle.chip.specs.State.{fresh, modeOf, initialization}
 use Rattle.changed.specs.Changed.{ticked}
@@ -29,9 +29,11 @@ frame = 0x24 ∷ 0x60 ∷ 0 ∷ 0 ∷ 0xAA ∷ 0x55 ∷ []
 abbrev pub stranger : List ℕ
 stranger = 0x24 ∷ 0x40 ∷ 0 ∷ 0 ∷ 0xAA ∷ 0x55 ∷ []
 
--- FILHIT where these filters match the frame, and no other
-abbrev pub hitOf : List Bool → ℕ
-hitOf matching = filhit (lowest (map (λ b. pick b frame stranger) matching) (replicate 8 (replicate 6 0xFF)) frame)
+-- where these filters match the frame, and no other: the set, FILHIT, and how many
+abbrev pub hitOf : List Bool → List ℕ
+hitOf matching =
+    let set = hits (map (λ b. pick b frame stranger) matching) (replicate 8 (replicate 6 0xFF)) frame in
+    set ∷ filhit set ∷ howMany set ∷ []
 
 abbrev pub rec-at : ℕ → Counters
 rec-at n = with-rec zeroed n
@@ -54,10 +56,10 @@ worked =
     -- "standard 0x123: 24 60"; "extended 0x12345678: 91 B8 AC F0"
     (bytesOf 0x123 false, 0x24 ∷ 0x60 ∷ []) ∷
     (bytesOf 0x12345678 true, 0x91 ∷ 0xB8 ∷ 0xAC ∷ 0xF0 ∷ []) ∷
-    -- "filters 2 and 5 match: FILHIT 1010; only 7: 1111; none: 0000"
-    (hitOf (false ∷ false ∷ true ∷ false ∷ false ∷ true ∷ false ∷ false ∷ []) ∷ [], 0b1010 ∷ []) ∷
-    (hitOf (false ∷ false ∷ false ∷ false ∷ false ∷ false ∷ false ∷ true ∷ []) ∷ [], 0b1111 ∷ []) ∷
-    (hitOf (replicate 8 false) ∷ [], 0b0000 ∷ []) ∷
+    -- "filters 2 and 5 match: FILHIT 1010; only 7: 1111; none: 0000", with the set before it and behind it how many
+    (hitOf (false ∷ false ∷ true ∷ false ∷ false ∷ true ∷ false ∷ false ∷ []), 0x24 ∷ 0b1010 ∷ 2 ∷ []) ∷
+    (hitOf (false ∷ false ∷ false ∷ false ∷ false ∷ false ∷ false ∷ true ∷ []), 0x80 ∷ 0b1111 ∷ 1 ∷ []) ∷
+    (hitOf (replicate 8 false), 0x00 ∷ 0b0000 ∷ 0 ∷ []) ∷
     -- "REC 95, receive error: 96, ERRW"; "127: 128, passive"; "128, good frame: 119"
     (rec-shown (receiveError (rec-at 95)), 96 ∷ 1 ∷ 0 ∷ []) ∷
     (rec-shown (receiveError (rec-at 127)), 128 ∷ 0 ∷ 1 ∷ []) ∷

@@ -5,7 +5,7 @@ use Prim.Native.Nat.{ℕ, _+_, _*_, _/_, _%_}
 use lib.Bits.{bitOr}
 use lib.Dec.{eqb, ltb}
 use lib.ListN.{drop, set, replicate}
-use Rattle.base.specs.Bit.{byte, bit}
+use Rattle.base.specs.Bit.{byte, bit, isSet}
 use Rattle.base.specs.Pick.{pick}
 use Rattle.base.specs.Put.{putOf}
 use Rattle.counters.specs.declared.Counters.{Counters}
@@ -17,8 +17,9 @@ use Rattle.chip.specs.declared.Device.{Device}
 use Rattle.chip.specs.declared.Registers.{Registers}
 use Rattle.chip.specs.State.{monitor, sleep, alone}
 use Rattle.chip.specs.Parts.{with-rx, with-counters, with-acting, with-regs, with-ctrl0, with-ctrl1, with-errs}
-use Rattle.chip.specs.Parts.{with-intf}
-use Rattle.receive.specs.Receive.{message}
+use Rattle.chip.specs.Parts.{with-intf, with-hits}
+use Rattle.receive.specs.Receive.{hits, message}
+use Rattle.judged.specs.Judged.{fromTheBus}
 use Rattle.bus.specs.declared.types.Pins.{Pins}
 use Rattle.bus.specs.Pins.{pins}
 use Rattle.promise.specs.Sequence.{spi, wire, Given, replied, answered, Step, Machine, shipped, done}
@@ -84,6 +85,19 @@ filtonIgnored =
     (with-intf (s .device .regs) (bitOr (s .device .regs .intf) (shipped (filtering d) i .device .regs .intf % 4))))
     s)
 
+-- FILHIT is filter 7's wherever that hit, whatever hit below it
+abbrev pub highestShown : Machine
+highestShown =
+    butEvents (λ d i s.
+    let set = s .device .regs .hits in
+    with-registers s (with-hits (s .device .regs) (pick (isSet 7 set) 0x80 set)))
+
+-- F1MESS rising while filter 0 hit too
+abbrev pub bothRaised : Machine
+bothRaised =
+    butEvents (λ d i s.
+    pick (isSet 1 (s .device .regs .hits)) (with-registers s (with-intf (s .device .regs) (bitOr (s .device .regs .intf) 2))) s)
+
 -- ERR's bits 0 and 1 exchanged in what an event sets
 abbrev pub errsExchanged : Machine
 errsExchanged =
@@ -122,7 +136,10 @@ showsAnother = replying messageReads (λ d. pick (ltb 1 (d .rx .count)) (with-rx
 
 -- the oldest message, with byte 1 as the filters would now have it
 abbrev pub hitNow : Device → Message → Message
-hitNow d m = record { bytes = byte (message d (headerIn (m .bytes)) (dataIn (m .bytes)) .bytes) 1 ∷ drop 1 (m .bytes) }
+hitNow d m =
+    let h = headerIn (m .bytes) in
+    let bytes = dataIn (m .bytes) in
+    record { bytes = byte (message d h bytes (hits d (fromTheBus h true bytes)) .bytes) 1 ∷ drop 1 (m .bytes) }
 
 -- a hit computed at read time
 abbrev pub hitAtRead : Machine

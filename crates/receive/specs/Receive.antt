@@ -1,47 +1,40 @@
 -- A frame that the mode takes, from the bus or, in loopback, of our own (01, Numbers given back, and Modes and
 -- filters).
-use mathlib.Core.Bool.{Bool, true, false}
+use mathlib.Core.Bool.{Bool, true, false, _&&_}
 use mathlib.Core.List.{List}
 use Prim.Native.Nat.{ℕ}
 use lib.Dec.{eqb}
+use Rattle.base.specs.Bit.{isSet}
 use Rattle.base.specs.Pick.{pick}
 use Rattle.fifo.specs.declared.Fifo.{Fifo}
 use Rattle.fifo.specs.declared.Message.{Message}
 use Rattle.fifo.specs.Queue.{full, put}
-use Rattle.filter.specs.declared.Hit.{Hit}
-use Rattle.filter.specs.declared.Hit.the-variants.{Filter, Nothing}
-use Rattle.filter.specs.Lowest.{lowest, filhit}
+use Rattle.filter.specs.Hits.{filhit}
+use Rattle.filter.specs.Hits as filter
 use Rattle.frame.specs.declared.Header.{Header}
 use Rattle.frame.specs.Received.{received, headerIn, dataIn}
 use Rattle.frame.specs.Tables.{compared}
 use Rattle.chip.specs.declared.Device.{Device}
-use Rattle.chip.specs.Parts.{with-regs, with-filhit, with-rx, with-temp}
-use Rattle.chip.specs.State.{filton, bank}
+use Rattle.chip.specs.Parts.{with-regs, with-hits, with-rx, with-temp}
+use Rattle.chip.specs.State.{loopback, filton, bank}
 use Rattle.receive.specs.declared.Arrival.{Arrival}
-use Rattle.receive.specs.declared.OwnFrame.{OwnFrame}
+use Rattle.receive.specs.declared.Brought.{Brought}
 use Rattle.receive.specs.declared.Arrival.the-variants.{Queued, A1, A2, A3, A4, A5}
 use Rattle.flags.specs.Flags.{raised, rxtmp, rxfifo, f0mess, f1mess}
 
--- "FILHIT shows the lowest match …; with FILTON at 0 it is 0000"
-unfoldable pub hit : Device → Header → List ℕ → Hit
-hit d h bytes = pick (filton d) (lowest (bank (d .filters)) (bank (d .masks)) (compared h bytes)) Nothing
+-- 02: "which filters match, as one byte", of the device's filters and masks
+unfoldable pub matching : Device → Header → List ℕ → ℕ
+matching d h bytes = filter.hits (bank (d .filters)) (bank (d .masks)) (compared h bytes)
 
--- "A5 eight messages wait"
-unfoldable pub queuedUnlessFull : Device → Arrival
-queuedUnlessFull d = pick (full (d .rx)) A5 Queued
+-- The filters that a frame hits, if one comes: "FILHIT shows the lowest match …; with FILTON at 0 it is 0000", and the
+-- set is then empty.
+unfoldable pub hits : Device → Brought → ℕ
+hits d b = pick (b .comes && filton d) (matching d (b .header) (b .payload)) 0
 
--- "A4 filtering is on and no filter matches"
-unfoldable pub passed : Device → Hit → Arrival
-passed d (Filter k) = queuedUnlessFull d
-passed d Nothing = A4
-
--- the filters first, then the room
-unfoldable pub byHit : Device → Hit → Arrival
-byHit d found = pick (filton d) (passed d found) (queuedUnlessFull d)
-
--- what becomes of a frame that the mode takes
-unfoldable pub filtersAndRoom : Device → Header → List ℕ → Arrival
-filtersAndRoom d h bytes = byHit d (hit d h bytes)
+-- What becomes of a frame that the mode takes, by the filters that it hits: "A4 filtering is on and no filter matches;
+-- A5 eight messages wait"
+unfoldable pub filtersAndRoom : Device → ℕ → Arrival
+filtersAndRoom d set = pick (filton d && eqb set 0) A4 (pick (full (d .rx)) A5 Queued)
 
 unfoldable pub isQueued : Arrival → Bool
 isQueued Queued = true
@@ -55,10 +48,10 @@ isQueued A5 = false
 unfoldable pub queuedFlag : Bool → ℕ
 queuedFlag queued = pick queued rxfifo 0
 
--- F0MESS and F1MESS rise when filter 0 or 1 passes a message: it is then the lowest match.
-unfoldable pub filterFlag : Hit → ℕ
-filterFlag (Filter k) = pick (eqb k 0) f0mess (pick (eqb k 1) f1mess 0)
-filterFlag Nothing = 0
+-- F0MESS and F1MESS rise when filter 0 or 1 passes a message, and "still follow the lowest alone" (02): F1MESS stays
+-- down where filter 0 hit too.
+unfoldable pub filterFlag : ℕ → ℕ
+filterFlag set = pick (isSet 0 set) f0mess (pick (isSet 1 set) f1mess 0)
 
 unfoldable pub queueAfter : Fifo → Message → Bool → Fifo
 queueAfter q m queued = pick queued (put q m) q
@@ -70,22 +63,30 @@ ownHeader d = headerIn (d .buffer .bytes)
 abbrev pub ownData : Device → List ℕ
 ownData d = dataIn (d .buffer .bytes)
 
-unfoldable pub ownFrame : Device → OwnFrame
-ownFrame d = record { header = ownHeader d; payload = ownData d }
+-- "In loopback each completed own message arrives as a good frame"
+unfoldable pub ownFrame : Device → Brought
+ownFrame d = record {
+  comes = eqb (d .acting) loopback;
+  own = true;
+  acknowledged = true;
+  header = ownHeader d;
+  payload = ownData d;
+}
 
 -- the frame's sixteen bytes, "what it says of the message fixed when stored"
-abbrev pub message : Device → Header → List ℕ → Message
-message d h bytes = record { bytes = received h bytes (d .time) (filhit (hit d h bytes)) }
+abbrev pub message : Device → Header → List ℕ → ℕ → Message
+message d h bytes set = record { bytes = received h bytes (d .time) (filhit set) }
 
 -- "A4, A5 and Queued put the frame" into the temporary buffer; RXTMP says so. Queued alone puts it into the FIFO.
-unfoldable pub arrived : Device → Header → List ℕ → Arrival → Device
-arrived d h bytes what =
+unfoldable pub arrived : Device → Brought → ℕ → Arrival → Device
+arrived d b set what =
+    let m = message d (b .header) (b .payload) set in
     raised
     (raised
     (raised
     (with-rx
-    (with-temp (with-regs d (with-filhit (d .regs) (filhit (hit d h bytes)))) (message d h bytes))
-    (queueAfter (d .rx) (message d h bytes) (isQueued what)))
+    (with-temp (with-regs d (with-hits (d .regs) set)) m)
+    (queueAfter (d .rx) m (isQueued what)))
     rxtmp)
     (queuedFlag (isQueued what)))
-    (filterFlag (hit d h bytes))
+    (filterFlag set)

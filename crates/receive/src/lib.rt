@@ -1,10 +1,10 @@
 // A frame that the mode takes: the filters, the room, and what an arrival changes.
 ghost use mathlib.Core.Path.{_≡_};
-ghost use Rattle.receive.specs.Receive.{hit, queuedUnlessFull, passed, byHit, filtersAndRoom, isQueued, queuedFlag, filterFlag, queueAfter, ownFrame, arrived};
+ghost use Rattle.receive.specs.Receive.{matching, hits, filtersAndRoom, isQueued, queuedFlag, filterFlag, queueAfter, ownFrame, arrived};
 use chip::Device;
+use chip::LOOPBACK;
 use fifo::Fifo;
 use fifo::Message;
-use filter::Hit;
 use frame::Header;
 
 // What becomes of a good frame.
@@ -22,64 +22,57 @@ pub enum Arrival {
     A5,
 }
 
-// The own message that runs, as a frame: in loopback it arrives.
-pub struct OwnFrame {
+// What an event brings.
+pub struct Brought {
+    // Whether a frame comes at all.
+    pub comes: bool,
+    // Our own message, or a frame from the bus.
+    pub own: bool,
+    // Whether another node acknowledged it. Of our own message nothing asks, and it is true.
+    pub acknowledged: bool,
     pub header: Header,
     pub payload: [u8; 8],
 }
 
-// The lowest filter that matches, while filtering is on.
-pub fn hit(d: Device, h: Header, payload: [u8; 8]) -> Hit
-    ensures { λ r. ⌜ r ≡ hit d h payload ⌝ }
+// Which filters match a frame, whether FILTON is on or not.
+pub fn matching(d: Device, h: Header, payload: [u8; 8]) -> u8
+    ensures { λ r. ⌜ r ≡ matching d h payload ⌝ }
 {
-    if chip::filton(d) {
-        let filters = d.filters;
-        let masks = d.masks;
-        let bank = chip::bank(filters);
-        let mask_bank = chip::bank(masks);
-        let vector = frame::compared(h, payload);
-        filter::lowest(bank, mask_bank, vector)
+    let filters = d.filters;
+    let masks = d.masks;
+    let bank = chip::bank(filters);
+    let mask_bank = chip::bank(masks);
+    let vector = frame::compared(h, payload);
+    filter::hits(bank, mask_bank, vector)
+}
+
+// The filters that a frame hits: where none comes, or FILTON is off, none is asked.
+pub fn hits(d: Device, b: Brought) -> u8
+    ensures { λ r. ⌜ r ≡ hits d b ⌝ }
+{
+    let comes = b.comes;
+    if comes & chip::filton(d) {
+        let payload = b.payload;
+        matching(d, b.header, payload)
     } else {
-        Hit::Nothing
+        0
     }
 }
 
-fn queued_unless_full(d: Device) -> Arrival
-    ensures { λ r. ⌜ r ≡ queuedUnlessFull d ⌝ }
+// What becomes of a frame that the mode takes, by the filters that it hits. The room is asked for last: a stranger's
+// frame meets no full queue.
+pub fn filters_and_room(d: Device, hits: u8) -> Arrival
+    ensures { λ r. ⌜ r ≡ filtersAndRoom d hits ⌝ }
 {
-    if fifo::full(d.rx) {
-        Arrival::A5
-    } else {
-        Arrival::Queued
+    let stranger = chip::filton(d) & (hits == 0);
+    let full = fifo::full(d.rx);
+    if stranger {
+        return Arrival::A4;
     }
-}
-
-// The room is asked for only where a filter matches: a stranger's frame meets no full queue.
-fn passed(d: Device, found: Hit) -> Arrival
-    ensures { λ r. ⌜ r ≡ passed d found ⌝ }
-{
-    match found {
-        Hit::Filter(_) => queued_unless_full(d),
-        Hit::Nothing => Arrival::A4,
+    if full {
+        return Arrival::A5;
     }
-}
-
-// What the filters' match and the room say of a frame.
-fn by_hit(d: Device, found: Hit) -> Arrival
-    ensures { λ r. ⌜ r ≡ byHit d found ⌝ }
-{
-    if chip::filton(d) {
-        passed(d, found)
-    } else {
-        queued_unless_full(d)
-    }
-}
-
-// What becomes of a frame that the mode takes.
-pub fn filters_and_room(d: Device, h: Header, payload: [u8; 8]) -> Arrival
-    ensures { λ r. ⌜ r ≡ filtersAndRoom d h payload ⌝ }
-{
-    by_hit(d, hit(d, h, payload))
+    Arrival::Queued
 }
 
 fn is_queued(a: Arrival) -> bool
@@ -101,20 +94,16 @@ fn queued_flag(queued: bool) -> u8
     if queued { flags::RXFIFO } else { 0 }
 }
 
-fn filter_flag(found: Hit) -> u8
-    ensures { λ r. ⌜ r ≡ filterFlag found ⌝ }
+// F0MESS and F1MESS follow the lowest alone.
+fn filter_flag(hits: u8) -> u8
+    ensures { λ r. ⌜ r ≡ filterFlag hits ⌝ }
 {
-    match found {
-        Hit::Filter(k) => {
-            if k == 0 {
-                flags::F0MESS
-            } else if k == 1 {
-                flags::F1MESS
-            } else {
-                0
-            }
-        }
-        Hit::Nothing => 0,
+    if hits % 2 == 1 {
+        flags::F0MESS
+    } else if (hits >> 1) % 2 == 1 {
+        flags::F1MESS
+    } else {
+        0
     }
 }
 
@@ -124,33 +113,38 @@ fn queue_after(q: Fifo, m: Message, queued: bool) -> Fifo
     if queued { fifo::put(q, m) } else { q }
 }
 
-// The message in the transmit buffer.
-pub fn own_frame(d: Device) -> OwnFrame
+// The message in the transmit buffer, which comes back in loopback alone.
+pub fn own_frame(d: Device) -> Brought
     ensures { λ r. ⌜ r ≡ ownFrame d ⌝ }
 {
     let m = d.buffer;
     let bytes = m.bytes;
     let header = frame::header_in(bytes);
     let payload = frame::data_in(bytes);
-    OwnFrame { header, payload }
+    Brought {
+        comes: d.acting == LOOPBACK,
+        own: true,
+        acknowledged: true,
+        header,
+        payload,
+    }
 }
 
 // The device with the frame arrived: in the temporary buffer in any case, in the FIFO if it is queued.
-pub fn arrived(d: Device, h: Header, payload: [u8; 8], what: Arrival) -> Device
-    ensures { λ r. ⌜ r ≡ arrived d h payload what ⌝ }
+pub fn arrived(d: Device, b: Brought, hits: u8, what: Arrival) -> Device
+    ensures { λ r. ⌜ r ≡ arrived d b hits what ⌝ }
 {
-    let found = hit(d, h, payload);
     let queued = is_queued(what);
-    let filhit = filter::filhit(found);
-    let bytes = frame::received(h, payload, d.time, filhit);
+    let payload = b.payload;
+    let bytes = frame::received(b.header, payload, d.time, filter::filhit(hits));
     let m = Message { bytes };
     let waiting = d.rx;
     let rx = queue_after(waiting, m, queued);
     let mut e = d;
-    e.regs.filhit = filhit;
+    e.regs.hits = hits;
     e.temp = m;
     e.rx = rx;
     let f = flags::raised(e, flags::RXTMP);
     let g = flags::raised(f, queued_flag(queued));
-    flags::raised(g, filter_flag(found))
+    flags::raised(g, filter_flag(hits))
 }

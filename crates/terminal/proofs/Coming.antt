@@ -16,6 +16,7 @@ use Rattle.chip.specs.State.{fresh, normal}
 use Rattle.events.specs.declared.Event.the-variants.{GoodFrame}
 use Rattle.bus.specs.Pins.{pins}
 use Rattle.bus.specs.declared.types.Pins.{Pins}
+use Rattle.promise.specs.Hits.{filhitOf}
 use Rattle.promise.specs.Sequence.{Input, spi, wire, shipped as step, number}
 use Rattle.promise.specs.Commands.{isCommand, lengthsOf, setsUp, transferFits}
 use Rattle.promise.specs.Flags.{mchg}
@@ -73,6 +74,7 @@ module _ {d : Device} (h : Reached d) (listens : Listens d) where
     scan-count = omega (arith, scan-has .waits, has h .waits, length-append (r .ledger .accepted) (f ∷ []))
 
     scan-flags : Wakes d → brought d scan .regs .intf ≡ 0xC0
+    unfolding filhitOf
     scan-flags wakes = scan-has .flags ∙ rw (unfiltered-now h listens, ← has h .flags, wakes) (raised-again (eqb (d .rx .count) 0))
 
     pub scan-wakes : Wakes d → Wakes (brought d scan)

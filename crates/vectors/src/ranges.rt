@@ -51,10 +51,9 @@ fn remembering(first: u8, count: u8) -> Device {
     d
 }
 
-fn showing(errs: u8, filhit: u8, mtag: u8) -> Device {
+fn showing(errs: u8, mtag: u8) -> Device {
     let mut d = chip::fresh();
     d.regs.errs = errs;
-    d.regs.filhit = filhit;
     d.regs.mtag = mtag;
     d
 }
@@ -106,11 +105,8 @@ fn queues() {
 }
 
 fn registers() {
-    on_both_sides(b"ERR, 32 and 31:", showing(32, 0, 0), showing(31, 0, 0));
-    on_both_sides(b"FILHIT, 1 and 0:", showing(0, 1, 0), showing(0, 0, 0));
-    on_both_sides(b"FILHIT, 7 and 8:", showing(0, 7, 0), showing(0, 8, 0));
-    on_both_sides(b"FILHIT, 16 and 15:", showing(0, 16, 0), showing(0, 15, 0));
-    on_both_sides(b"MTAG, 4 and 3:", showing(0, 0, 4), showing(0, 0, 3));
+    on_both_sides(b"ERR, 32 and 31:", showing(32, 0), showing(31, 0));
+    on_both_sides(b"MTAG, 4 and 3:", showing(0, 4), showing(0, 3));
     on_both_sides(b"groups, 129 and 128:", counting(129), counting(128));
 }
 

@@ -1,32 +1,12 @@
 -- `bus::answer` meets its contract. Assumes nothing.
 use Rattle.bus.specs.Event.{answer}
-use Rattle.base.specs.Pick.{picks, judges}
 use borrow.Author.Needs.{needs}
 use Rattle.bus.proofs.answer.Statement.{statement}
 use Rattle.bus.proofs.answer.Tie as tie
 
 returns : tie.Need-returns
 unfolding answer
-returns c =
-    rw (
-      ← c .before .before .before .proper .ensures,
-      ← c .before .impossible .ensures,
-    )
-    (search (picks, judges, c .if2 .taken, c .before .before .if1 .taken))
-
-returns-2 : tie.Need-returns-2
-unfolding answer
-returns-2 c =
-    rw (
-      ← c .before .before .before .before .proper .ensures,
-      ← c .before .before .impossible .ensures,
-      ← c .said .ensures,
-    )
-    (search (picks, judges, c .before .if2 .left, c .before .before .before .if1 .taken))
-
-returns-3 : tie.Need-returns-3
-unfolding answer
-returns-3 c = rw (← c .before .proper .ensures) (search (picks, judges, c .if1 .left))
+returns c = rw (c .answered .ensures, c .before .hits .ensures, c .before .before .brought .ensures)
 
 pub answer-spec : {M : Type 1} → statement M
-answer-spec = tie.close (tie.spec (search needs) (search needs) returns (search needs) returns-2 returns-3)
+answer-spec = tie.close (tie.spec (search needs) (search needs) (search needs) returns)

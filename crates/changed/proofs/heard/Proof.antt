@@ -7,7 +7,7 @@ use Rattle.changed.proofs.heard.Tie as tie
 
 returns : tie.Need-returns
 unfolding heard
-returns c = rw (← c .before .counted-frame .ensures, ← c .arrived .ensures) (search (picks, judges))
+returns c = rw (← c .counted-frame .ensures) (search (picks, judges))
 
 pub heard-spec : {M : Type 1} → statement M
-heard-spec = tie.close (tie.spec (search needs) (search needs) returns)
+heard-spec = tie.close (tie.spec (search needs) returns)

@@ -1,30 +1,17 @@
 -- `judged::said` meets its contract. Assumes nothing.
 use Rattle.judged.specs.Judged.{said}
+use Rattle.base.specs.Pick.{picks, judges}
 use borrow.Author.Needs.{needs}
 use Rattle.judged.proofs.said.Statement.{statement}
 use Rattle.judged.proofs.said.Tie as tie
 
-returns-9 : tie.Need-returns-9
+returns : tie.Need-returns
 unfolding said
-returns-9 c = rw (c .enum-told8 .given .1)
+returns c = rw (c .reason .ensures) (search (picks, judges, c .before .if1 .taken))
+
+returns-2 : tie.Need-returns-2
+unfolding said
+returns-2 c = search (picks, judges, c .if1 .left)
 
 pub said-spec : {M : Type 1} → statement M
-unfolding said
-said-spec =
-    tie.close
-    (tie.spec (search needs) (search needs) (search needs) (search needs) (search needs) (search needs) (search needs) (search needs)
-    (search needs) (search needs) (search needs) (search needs) (search needs) (search needs) (search needs) (search needs)
-    (λ c. rw (c .before .before .e .given .1, c .reason .ensures))
-    (λ c. rw (c .before .enum-told .given .1) (c .echo .ensures))
-    (λ c. rw (c .enum-told2 .given .1))
-    (λ c. rw (c .enum-told3 .given .1))
-    (λ c. rw (c .enum-told4 .given .1))
-    (λ c. rw (c .enum-told5 .given .1))
-    (λ c. rw (c .enum-told6 .given .1))
-    (λ c. rw (c .enum-told7 .given .1))
-    returns-9
-    (λ c. rw (c .enum-told9 .given .1))
-    (λ c. rw (c .enum-told10 .given .1))
-    (λ c. rw (c .enum-told11 .given .1))
-    (λ c. rw (c .enum-told12 .given .1))
-    (λ c. rw (c .enum-told13 .given .1)))
+said-spec = tie.close (tie.spec (search needs) returns returns-2)

@@ -16,12 +16,11 @@ returns c =
       c .before .before .before .before .before .before .queue-after .ensures,
       c .before .before .before .before .before .before .before .before .received .ensures,
       c .before .before .before .before .before .before .before .before .before .filhit .ensures,
-      c .before .before .before .before .before .before .before .before .before .before .is-queued .ensures,
-      c .before .before .before .before .before .before .before .before .before .before .before .hit .ensures,
+      c .before .before .before .before .before .before .before .before .before .before .before .is-queued .ensures,
     )
 
 pub arrived-spec : {M : Type 1} → statement M
 arrived-spec =
     tie.close
     (tie.spec (search needs) (search needs) (search needs) (search needs) (search needs) (search needs) (search needs) (search needs)
-    (search needs) (search needs) returns)
+    (search needs) returns)

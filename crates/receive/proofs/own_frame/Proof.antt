@@ -6,7 +6,7 @@ use Rattle.receive.proofs.own_frame.Tie as tie
 
 returns : tie.Need-returns
 unfolding ownFrame
-returns c = rw (c .data-in .ensures, c .before .header-in .ensures)
+returns c = rw (c .before .data-in .ensures, c .before .before .header-in .ensures)
 
 pub own-frame-spec : {M : Type 1} → statement M
 own-frame-spec = tie.close (tie.spec (search needs) (search needs) returns)

@@ -18,9 +18,9 @@ returns c =
     let w = c .before .before .before .before .before .before .word in
     let t = c .before .before .before .before .is-number in
     word-right (a .s .now) (a .at) (w .result) (w .ensures) (isNumber 16) Identifier
-    (λ w ws. frameKind (min (valueOf 16 w) most) ws)
+    (λ w ws. frameKind (a .what) (min (valueOf 16 w) most) ws)
     (t .result) (t .ensures) _ (c .before .before .before .if1 .taken)
-    (c .frame-kind .ensures ∙ ap (λ (k : ℕ). frameKind k (wordsOf (drop (w .result .to) (a .s .now)))) (c .before .identifier .ensures))
+    (c .frame-kind .ensures ∙ ap (λ (k : ℕ). frameKind (a .what) k (wordsOf (drop (w .result .to) (a .s .now)))) (c .before .identifier .ensures))
 
 returns-2 : tie.Need-returns-2
 unfolding frameOf
@@ -29,7 +29,7 @@ returns-2 c =
     let w = c .before .before .before .before .before .word in
     let t = c .before .before .before .is-number in
     word-wrong (a .s .now) (a .at) (w .result) (w .ensures) (isNumber 16) Identifier
-    (λ w ws. frameKind (min (valueOf 16 w) most) ws)
+    (λ w ws. frameKind (a .what) (min (valueOf 16 w) most) ws)
     (t .result) (t .ensures) _ (c .before .before .if1 .left)
     (c .unreadable .ensures)
 

@@ -5,7 +5,7 @@ use Rattle.line.specs.declared.Expected.the-variants.{LengthCode}
 use lib.ListN.{drop}
 use Rattle.line.specs.Words.{wordsOf}
 use Rattle.line.specs.Numbers.{isNumber, valueOf}
-use Rattle.line.specs.Request.{frameCode, frameAck}
+use Rattle.line.specs.Request.{frameCode, frameRest}
 use Rattle.line.proofs.Reading.{word-right, word-wrong}
 use borrow.Author.Needs.{needs}
 use Rattle.line.proofs.frames.frame_code.Statement.{statement}
@@ -18,9 +18,9 @@ returns c =
     let w = c .before .before .before .before .before .before .word in
     let t = c .before .before .before .before .is-number in
     word-right (a .s .now) (a .at) (w .result) (w .ensures) (isNumber 10) LengthCode
-    (λ w ws. frameAck (record { id = a .id; extended = a .extended; remote = a .remote; code = min (valueOf 10 w) 255 }) ws)
+    (λ w ws. frameRest (a .what) (record { id = a .id; extended = a .extended; remote = a .remote; code = min (valueOf 10 w) 255 }) ws)
     (t .result) (t .ensures) _ (c .before .before .before .if1 .taken)
-    (c .frame-ack .ensures ∙ ap (λ (k : ℕ). frameAck (record { id = a .id; extended = a .extended; remote = a .remote; code = k }) (wordsOf (drop (w .result .to) (a .s .now)))) (c .before .code .ensures))
+    (c .frame-rest .ensures ∙ ap (λ (k : ℕ). frameRest (a .what) (record { id = a .id; extended = a .extended; remote = a .remote; code = k }) (wordsOf (drop (w .result .to) (a .s .now)))) (c .before .code .ensures))
 
 returns-2 : tie.Need-returns-2
 unfolding frameCode
@@ -29,7 +29,7 @@ returns-2 c =
     let w = c .before .before .before .before .before .word in
     let t = c .before .before .before .is-number in
     word-wrong (a .s .now) (a .at) (w .result) (w .ensures) (isNumber 10) LengthCode
-    (λ w ws. frameAck (record { id = a .id; extended = a .extended; remote = a .remote; code = min (valueOf 10 w) 255 }) ws)
+    (λ w ws. frameRest (a .what) (record { id = a .id; extended = a .extended; remote = a .remote; code = min (valueOf 10 w) 255 }) ws)
     (t .result) (t .ensures) _ (c .before .before .if1 .left)
     (c .unreadable .ensures)
 

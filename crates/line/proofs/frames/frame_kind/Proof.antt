@@ -13,7 +13,7 @@ returns c =
     let a = c .before .before .before .before .before .before .before .before .before .args in
     let w = c .before .before .before .before .before .before .before .word in
     let k = c .before .before .before .choose in
-    chose-one (a .s .now) (a .at) (w .result) (w .ensures) (ascii "ext") (ascii "std") StdOrExt (frameRemote (a .id))
+    chose-one (a .s .now) (a .at) (w .result) (w .ensures) (ascii "ext") (ascii "std") StdOrExt (frameRemote (a .what) (a .id))
     (k .result) (k .ensures) _ (c .before .enum-told .given .1) (c .frame-remote .ensures)
 
 returns-2 : tie.Need-returns-2
@@ -22,7 +22,7 @@ returns-2 c =
     let a = c .before .before .before .before .before .before .before .before .before .args in
     let w = c .before .before .before .before .before .before .before .word in
     let k = c .before .before .before .choose in
-    chose-other (a .s .now) (a .at) (w .result) (w .ensures) (ascii "ext") (ascii "std") StdOrExt (frameRemote (a .id))
+    chose-other (a .s .now) (a .at) (w .result) (w .ensures) (ascii "ext") (ascii "std") StdOrExt (frameRemote (a .what) (a .id))
     (k .result) (k .ensures) _ (c .before .enum-told2 .given .1) (c .frame-remote2 .ensures)
 
 returns-3 : tie.Need-returns-3
@@ -31,7 +31,7 @@ returns-3 c =
     let a = c .before .before .before .before .before .before .before .before .before .before .args in
     let w = c .before .before .before .before .before .before .before .before .word in
     let k = c .before .before .before .before .choose in
-    chose-neither (a .s .now) (a .at) (w .result) (w .ensures) (ascii "ext") (ascii "std") StdOrExt (frameRemote (a .id))
+    chose-neither (a .s .now) (a .at) (w .result) (w .ensures) (ascii "ext") (ascii "std") StdOrExt (frameRemote (a .what) (a .id))
     (k .result) (k .ensures) _ (c .before .before .enum-told3 .given .1) (c .unreadable .ensures)
 
 pub frame-kind-spec : {M : Type 1} → statement M

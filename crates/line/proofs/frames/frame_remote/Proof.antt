@@ -13,7 +13,7 @@ returns c =
     let a = c .before .before .before .before .before .before .before .before .before .args in
     let w = c .before .before .before .before .before .before .before .word in
     let k = c .before .before .before .choose in
-    chose-one (a .s .now) (a .at) (w .result) (w .ensures) (ascii "remote") (ascii "data") DataOrRemote (frameCode (a .id) (a .extended))
+    chose-one (a .s .now) (a .at) (w .result) (w .ensures) (ascii "remote") (ascii "data") DataOrRemote (frameCode (a .what) (a .id) (a .extended))
     (k .result) (k .ensures) _ (c .before .enum-told .given .1) (c .frame-code .ensures)
 
 returns-2 : tie.Need-returns-2
@@ -22,7 +22,7 @@ returns-2 c =
     let a = c .before .before .before .before .before .before .before .before .before .args in
     let w = c .before .before .before .before .before .before .before .word in
     let k = c .before .before .before .choose in
-    chose-other (a .s .now) (a .at) (w .result) (w .ensures) (ascii "remote") (ascii "data") DataOrRemote (frameCode (a .id) (a .extended))
+    chose-other (a .s .now) (a .at) (w .result) (w .ensures) (ascii "remote") (ascii "data") DataOrRemote (frameCode (a .what) (a .id) (a .extended))
     (k .result) (k .ensures) _ (c .before .enum-told2 .given .1) (c .frame-code2 .ensures)
 
 returns-3 : tie.Need-returns-3
@@ -31,7 +31,7 @@ returns-3 c =
     let a = c .before .before .before .before .before .before .before .before .before .before .args in
     let w = c .before .before .before .before .before .before .before .before .word in
     let k = c .before .before .before .before .choose in
-    chose-neither (a .s .now) (a .at) (w .result) (w .ensures) (ascii "remote") (ascii "data") DataOrRemote (frameCode (a .id) (a .extended))
+    chose-neither (a .s .now) (a .at) (w .result) (w .ensures) (ascii "remote") (ascii "data") DataOrRemote (frameCode (a .what) (a .id) (a .extended))
     (k .result) (k .ensures) _ (c .before .before .enum-told3 .given .1) (c .unreadable .ensures)
 
 pub frame-remote-spec : {M : Type 1} → statement M

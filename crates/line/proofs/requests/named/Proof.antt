@@ -62,6 +62,12 @@ word-7 c = word-6 (c .before .before .before)
 past-7 : (c : tie.Else7) (ws : List (List ℕ)) {x : Line} → x ≡ after 5 (word-7 c) ws → x ≡ namedOf (word-7 c) ws
 past-7 c ws p = past-6 (c .before .before .before) ws (pick-no _ _ _ _ _ (sym (c .before .is6 .ensures) ∙ c .if7 .left) p)
 
+abbrev word-8 : tie.Else8 → List ℕ
+word-8 c = word-7 (c .before .before .before)
+
+past-8 : (c : tie.Else8) (ws : List (List ℕ)) {x : Line} → x ≡ after 6 (word-8 c) ws → x ≡ namedOf (word-8 c) ws
+past-8 c ws p = past-7 (c .before .before .before) ws (pick-no _ _ _ _ _ (sym (c .before .is7 .ensures) ∙ c .if8 .left) p)
+
 sized-requires : tie.Need-sized-requires
 sized-requires c κs = (
   begins-long (c .before .before .before .before .before .before .before .args .word .now) (ascii "spi/")
@@ -73,22 +79,28 @@ returns : tie.Need-returns
 unfolding namedOf
 returns c = pick-yes _ _ _ _ _ (sym (c .before .before .is .ensures) ∙ c .before .if1 .taken) (c .transfer .ensures)
 
+returns-4 : tie.Need-returns-4
+returns-4 c =
+    past-3 (c .before .before .before .before) _
+    (pick-yes _ _ _ _ _ (sym (c .before .before .is3 .ensures) ∙ c .before .if4 .taken) (c .frame2 .ensures))
+
 pub named-spec : {M : Type 1} → statement M
 named-spec =
     tie.close
     (tie.spec (search needs) (search needs) (search needs) (search needs) sized-requires (search needs) (search needs) (search needs)
     (search needs) (search needs) (search needs) (search needs) (search needs) (search needs) (search needs) (search needs) (search needs)
-    (search needs) (search needs) (search needs) (search needs) returns
+    (search needs) (search needs) (search needs) (search needs) (search needs) (search needs) (search needs) returns
     (λ c. past-1 (c .before .before .before) _
     (pick-yes _ _ _ _ _ (sym (c .before .before .is-sized .ensures) ∙ c .before .if2 .taken) (c .sized .ensures)))
     (λ c. past-2 (c .before .before .before .before) _
     (pick-yes _ _ _ _ _ (sym (c .before .before .is2 .ensures) ∙ c .before .if3 .taken) (c .frame .ensures)))
-    (λ c. past-3 (c .before .before .before .before) _
-    (pick-yes _ _ _ _ _ (sym (c .before .before .is3 .ensures) ∙ c .before .if4 .taken) (c .rxerr .ensures)))
+    returns-4
     (λ c. past-4 (c .before .before .before .before) _
-    (pick-yes _ _ _ _ _ (sym (c .before .before .is4 .ensures) ∙ c .before .if5 .taken) (c .txerr .ensures)))
+    (pick-yes _ _ _ _ _ (sym (c .before .before .is4 .ensures) ∙ c .before .if5 .taken) (c .rxerr .ensures)))
     (λ c. past-5 (c .before .before .before .before) _
-    (pick-yes _ _ _ _ _ (sym (c .before .before .is5 .ensures) ∙ c .before .if6 .taken) (c .ticks .ensures)))
+    (pick-yes _ _ _ _ _ (sym (c .before .before .is5 .ensures) ∙ c .before .if6 .taken) (c .txerr .ensures)))
     (λ c. past-6 (c .before .before .before .before) _
-    (pick-yes _ _ _ _ _ (sym (c .before .before .is6 .ensures) ∙ c .before .if7 .taken) (c .txen .ensures)))
-    (λ c. past-7 (c .before) _ (c .lone .ensures)))
+    (pick-yes _ _ _ _ _ (sym (c .before .before .is6 .ensures) ∙ c .before .if7 .taken) (c .ticks .ensures)))
+    (λ c. past-7 (c .before .before .before .before) _
+    (pick-yes _ _ _ _ _ (sym (c .before .before .is7 .ensures) ∙ c .before .if8 .taken) (c .txen .ensures)))
+    (λ c. past-8 (c .before) _ (c .lone .ensures)))
