@@ -11,8 +11,8 @@
 #include <time.h>
 #include <unistd.h>
 
-enum { RUNS = 7, COMPARED_ROUNDS = 3, COMPARED_SEEDS = 100 };
-static const double AIM = 0.2; /* seconds of the plain program */
+enum { RUNS = 21, COMPARED_ROUNDS = 3, COMPARED_SEEDS = 100 };
+static const double AIM = 0.07; /* seconds of the plain program */
 
 static void mixed(struct work *w) { work_mixed(w, 1); }
 

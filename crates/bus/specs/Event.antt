@@ -12,7 +12,7 @@ use Rattle.judged.specs.declared.Answer.{Answer}
 use Rattle.judged.specs.declared.Answer.the-variants.{Refused, Done, Arrived}
 use Rattle.events.specs.declared.Event.{Event}
 use Rattle.bus.specs.declared.types.Outcome.{Outcome}
-use Rattle.judged.specs.Judged.{impossible, said, brought}
+use Rattle.judged.specs.Judged.{impossible, said, brings}
 use Rattle.changed.specs.Changed.{arrival, after}
 
 -- 01's number for each answer
@@ -43,7 +43,7 @@ answered d e b set =
 
 -- what the event brings, and the filters that this hits, decide the answer
 unfoldable pub answer : Device → Event → List ℕ → Answer
-answer d e bytes = let b = brought d e bytes in answered d e b (hits d b)
+answer d e bytes = let b = brings d e bytes in answered d e b (hits d b)
 
 abbrev pub outcome : Device → Event → Brought → ℕ → Answer → Outcome
 outcome d e b set (Refused n) = record { device = d; answer = Refused n }
@@ -51,4 +51,4 @@ outcome d e b set Done = record { device = after d e; answer = Done }
 outcome d e b set (Arrived what) = record { device = arrival d b set what; answer = Arrived what }
 
 unfoldable pub event : Device → Event → List ℕ → Outcome
-event d e bytes = let b = brought d e bytes in outcome d e b (hits d b) (answer d e bytes)
+event d e bytes = let b = brings d e bytes in outcome d e b (hits d b) (answer d e bytes)

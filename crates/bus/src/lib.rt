@@ -31,7 +31,7 @@ fn answered(d: Device, e: Event, b: Brought, hits: u8) -> Answer
 pub fn answer(d: Device, e: Event, payload: [u8; 8]) -> Answer
     ensures { λ r. ⌜ r ≡ answer d e payload ⌝ }
 {
-    let b = judged::brought(d, e, payload);
+    let b = judged::brings(d, e, payload);
     let hits = receive::hits(d, b);
     answered(d, e, b, hits)
 }
@@ -39,7 +39,7 @@ pub fn answer(d: Device, e: Event, payload: [u8; 8]) -> Answer
 pub fn event(d: Device, e: Event, payload: [u8; 8]) -> Outcome
     ensures { λ r. ⌜ r ≡ event d e payload ⌝ }
 {
-    let b = judged::brought(d, e, payload);
+    let b = judged::brings(d, e, payload);
     let hits = receive::hits(d, b);
     let a = answered(d, e, b, hits);
     match a {

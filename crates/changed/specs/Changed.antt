@@ -35,6 +35,7 @@ errBit Bit = 16
 unfoldable pub countedFrame : Counters → ℕ → Counters
 countedFrame c acting = pick (eqb acting normal) (goodFrame c) c
 
+-- a frame from the bus that reached the temporary buffer
 unfoldable pub heard : Device → Device
 heard d = with-counters d (countedFrame (d .counters) (d .acting))
 

@@ -36,5 +36,6 @@ abbrev pub countIn : ℕ → ℕ → ℕ
 countIn zero set = 0
 countIn (suc n) set = bit n set + countIn n set
 
+-- 01, Forms: "count of ones tells how many filters hit"
 unfoldable pub howMany : ℕ → ℕ
 howMany set = countIn 8 set

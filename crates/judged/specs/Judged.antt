@@ -77,9 +77,9 @@ reason d b set =
 unfoldable pub said : Device → Brought → ℕ → Answer
 said d b set = pick (b .comes) (Arrived (reason d b set)) Done
 
--- what an event brings: a good frame, or the own message that it completes
-unfoldable pub fromTheBus : Header → Bool → List ℕ → Brought
-fromTheBus h acknowledged bytes = record {
+-- "good frame (with acknowledged or not)"
+unfoldable pub busFrame : Header → Bool → List ℕ → Brought
+busFrame h acknowledged bytes = record {
   comes = true;
   own = false;
   acknowledged = acknowledged;
@@ -96,18 +96,20 @@ nothing = record {
   payload = replicate 8 0;
 }
 
-unfoldable pub brought : Device → Event → List ℕ → Brought
-brought d (GoodFrame h acknowledged given) bytes = fromTheBus h acknowledged bytes
-brought d Completed bytes = ownFrame d
-brought d (ReceiveError kind) bytes = nothing
-brought d DominantBit bytes = nothing
-brought d (TransmitError kind counted) bytes = nothing
-brought d Begun bytes = nothing
-brought d ArbitrationLost bytes = nothing
-brought d ElevenRecessive bytes = nothing
-brought d BusQuiet bytes = nothing
-brought d BusActivity bytes = nothing
-brought d (Ticks count) bytes = nothing
-brought d (TxenPin level) bytes = nothing
-brought d MrPin bytes = nothing
-brought d Unknown bytes = nothing
+-- What an event brings: a good frame; a completion the own message, which comes in loopback (`ownFrame`). No other
+-- event brings one.
+unfoldable pub brings : Device → Event → List ℕ → Brought
+brings d (GoodFrame h acknowledged given) bytes = busFrame h acknowledged bytes
+brings d Completed bytes = ownFrame d
+brings d (ReceiveError kind) bytes = nothing
+brings d DominantBit bytes = nothing
+brings d (TransmitError kind counted) bytes = nothing
+brings d Begun bytes = nothing
+brings d ArbitrationLost bytes = nothing
+brings d ElevenRecessive bytes = nothing
+brings d BusQuiet bytes = nothing
+brings d BusActivity bytes = nothing
+brings d (Ticks count) bytes = nothing
+brings d (TxenPin level) bytes = nothing
+brings d MrPin bytes = nothing
+brings d Unknown bytes = nothing

@@ -1,7 +1,7 @@
 // Which events can't be, and what the others are answered.
 ghost use mathlib.Core.Path.{_≡_};
 ghost use Rattle.judged.specs.Judged.{quietMode, noErrors, runs, impossibleFrame, impossible};
-ghost use Rattle.judged.specs.Judged.{takesNoFrames, unacknowledged, reason, said, fromTheBus, nothing, brought};
+ghost use Rattle.judged.specs.Judged.{takesNoFrames, unacknowledged, reason, said, busFrame, nothing, brings};
 use chip::Device;
 use chip::IDLE;
 use chip::INITIALIZATION;
@@ -119,8 +119,8 @@ pub fn said(d: Device, b: Brought, hits: u8) -> Answer
     }
 }
 
-fn from_the_bus(header: Header, acknowledged: bool, payload: [u8; 8]) -> Brought
-    ensures { λ r. ⌜ r ≡ fromTheBus header acknowledged payload ⌝ }
+fn bus_frame(header: Header, acknowledged: bool, payload: [u8; 8]) -> Brought
+    ensures { λ r. ⌜ r ≡ busFrame header acknowledged payload ⌝ }
 {
     Brought {
         comes: true,
@@ -150,11 +150,11 @@ fn nothing() -> Brought
 }
 
 // What an event brings: a good frame; a completion our own message, which comes back in loopback alone; else nothing.
-pub fn brought(d: Device, e: Event, payload: [u8; 8]) -> Brought
-    ensures { λ r. ⌜ r ≡ brought d e payload ⌝ }
+pub fn brings(d: Device, e: Event, payload: [u8; 8]) -> Brought
+    ensures { λ r. ⌜ r ≡ brings d e payload ⌝ }
 {
     match e {
-        Event::GoodFrame(h, acknowledged, _) => from_the_bus(h, acknowledged, payload),
+        Event::GoodFrame(h, acknowledged, _) => bus_frame(h, acknowledged, payload),
         Event::Completed => receive::own_frame(d),
         Event::ReceiveError(_) => nothing(),
         Event::DominantBit => nothing(),

@@ -68,8 +68,8 @@ module _ (M : Type 1) where
   pub judged·impossible-frame : OneResult M judged.impossible_frame.ended judged.impossible_frame.spec
   judged·impossible-frame = result judged.impossible_frame.clauses (λ _. Judged.impossibleFrame) refl
 
-  pub judged·brought : OneResult M judged.brought.ended judged.brought.spec
-  judged·brought = result judged.brought.clauses (λ _. Judged.brought) refl
+  pub judged·brings : OneResult M judged.brings.ended judged.brings.spec
+  judged·brings = result judged.brings.clauses (λ _. Judged.brings) refl
 
   pub judged·reason : OneResult M judged.reason.ended judged.reason.spec
   judged·reason = result judged.reason.clauses (λ _. Judged.reason) refl

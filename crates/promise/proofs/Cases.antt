@@ -25,7 +25,7 @@ use Rattle.promise.specs.Wrong.{keepsBehind, resetKeeps, modeClears, str
 use Rattle.promise.specs.WrongRegisters.{commandsExchanged, filterElsewhere, sleepsAtOnce, modeStays, borElsewhere, tx1mKept, filtonIgnored}
 use Rattle.promise.specs.WrongRegisters.{errsExchanged, errCleared, intfKept, intByStatfe, showsAnother, hitAtRead, repliesZeros, blind, groupsAlways}
 use Rattle.promise.specs.WrongRegisters.{highestShown, bothRaised}
-use Rattle.promise.specs.WrongQuestions.{whileOn, reversed, withoutSeven, anyFrame}
+use Rattle.promise.specs.WrongQuestions.{whileOn, reversed, withoutSeven, anyDevice, anyFrame}
 use Rattle.promise.specs.WrongRegisters.{clearsFirst, refusesAll, changesNothing, madeUpRec, madeUpTec, madeUpGroups}
 use Rattle.promise.proofs.After.{fresh-holds}
 
@@ -48,8 +48,9 @@ pub data Case : Type 0 where
   misanswered : Machine → Device → Input → Case
   -- a refusal that changes the queue
   changing : Machine → Device → Input → Case
-  -- a way to ask which filters match, of a frame
+  -- a way to ask which filters match, of a frame: after a sequence, and in a device
   mistold : Question → List Input → Header → ℕ → List ℕ → Case
+  misasked : Question → Device → Header → ℕ → List ℕ → Case
   -- in a device that holds what these records have
   astray : (w : Machine) (d : Device) (r : Records) → Holds d r → Input → Case
 
@@ -139,6 +140,10 @@ groupsLeft = record { rec = 0; tec = 0; busoff = false; groups = 5 }
 abbrev pub oddDevice : Device
 oddDevice = with-counters fresh groupsLeft
 
+-- and one with more groups than there can be
+abbrev pub farDevice : Device
+farDevice = with-counters fresh (record { rec = 0; tec = 0; busoff = false; groups = 129 })
+
 abbrev pub oddRecords : Records
 oddRecords = with-counted start groupsLeft
 
@@ -208,5 +213,7 @@ cases =
     mistold reversed (maskAll 0x74 ∷ []) scanHeader 1 (1 ∷ replicate 7 0) ∷
     mistold withoutSeven [] scanHeader 1 (1 ∷ replicate 7 0) ∷
     mistold anyFrame [] scanHeader 2 (1 ∷ replicate 7 0) ∷
+    misasked anyFrame fresh scanHeader 2 (1 ∷ replicate 7 0) ∷
+    misasked anyDevice farDevice scanHeader 1 (1 ∷ replicate 7 0) ∷
     astray groupsAlways oddDevice oddRecords odd-holds (ask 0xF8) ∷
     []

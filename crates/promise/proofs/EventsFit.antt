@@ -23,7 +23,7 @@ use Rattle.events.specs.declared.Event.{Event}
 use Rattle.events.specs.declared.Event.the-variants.{GoodFrame, ReceiveError, DominantBit, TransmitError, Begun, Completed, ArbitrationLost, ElevenRecessive}
 use Rattle.events.specs.declared.Event.the-variants.{BusQuiet, BusActivity, Ticks, TxenPin, MrPin, Unknown}
 use Rattle.judged.specs.declared.Answer.{Answer}
-use Rattle.judged.specs.Judged.{impossible, reason, said, brought}
+use Rattle.judged.specs.Judged.{impossible, reason, said, brings}
 use Rattle.changed.specs.Changed.{errBit, countedFrame, heard, taken, reachesTemporary, countedReceiveError, receiveErrorMet, dominantMet, countedTransmitError}
 use Rattle.changed.specs.Changed.{transmitErrorMet, recessiveMet, ticked, pinSet, arrival, after}
 use Rattle.promise.proofs.Choices.{pick-under}
@@ -180,7 +180,7 @@ after-in d h Unknown possible = h
 pub event-in : (d : Device) → InRange d → (e : Event) (payload : List ℕ) → impossible d e ≡ false → InRange (outcomeOf d e payload (saidOf d e payload) .device)
 unfolding said
 event-in d h e payload possible =
-    let b = brought d e payload in
+    let b = brings d e payload in
     pick-under (λ (a : Answer). InRange (outcomeOf d e payload a .device)) (b .comes) _ _
     (λ comes. arrival-in d h b (hits d b) (reason d b (hits d b)))
     (λ none. after-in d h e possible)

@@ -28,7 +28,7 @@ use Rattle.events.specs.declared.Event.the-variants.{ArbitrationLost, ElevenRec
 use Rattle.events.specs.declared.Event.the-variants.{Unknown}
 use Rattle.judged.specs.declared.Answer.{Answer}
 use Rattle.judged.specs.declared.Answer.the-variants.{Arrived, Done}
-use Rattle.judged.specs.Judged.{runs, impossibleFrame, impossible, reason, said, fromTheBus, nothing as nobody, brought}
+use Rattle.judged.specs.Judged.{runs, impossibleFrame, impossible, reason, said, busFrame, nothing as nobody, brings}
 use Rattle.changed.specs.Changed.{errBit, countedReceiveError, receiveErrorMet, dominantMet, countedTransmitError, transmitErrorMet}
 use Rattle.changed.specs.Changed.{recessiveMet, ticked, pinSet, arrival, after}
 use Rattle.bus.specs.Event.{reasonOf, valuesOf, outcome}
@@ -169,10 +169,10 @@ module _ (d : Device) (r : Records) (h : Kept d r) where
       × (valuesOf (outcomeOf d e payload a .answer) ≡ valuesDue r e payload)
 
   pub event-agrees : (e : Event) (payload : List ℕ) → impossible d e ≡ false → Agrees e payload (saidOf d e payload)
-  unfolding said brought fromTheBus nobody after happened impossible impossibleFrame receiveErrorMet busError raised countedReceiveError receiveError dominantMet dominantBit
+  unfolding said brings busFrame nobody after happened impossible impossibleFrame receiveErrorMet busError raised countedReceiveError receiveError dominantMet dominantBit
       transmitErrorMet countedTransmitError transmitError stopped recessiveMet elevenRecessive ticked pinSet valuesOf
   event-agrees (GoodFrame header acknowledged count) payload can =
-      let b : Brought = fromTheBus header acknowledged payload in
+      let b : Brought = busFrame header acknowledged payload in
       let ok = and-left (possible header) _ (not-false (possible header && dataFits header count) can) in
       let due = bus-due d r h b refl ok refl in (
         rw (← due) (frame-kept d r h b refl ok (reason d b (hits d b)) (finds d r h b refl ok) refl),

@@ -22,11 +22,11 @@ use Rattle.promise.specs.Outbox.{Running, none, first, alone}
 use Rattle.promise.specs.Due.{Due}
 use Rattle.promise.specs.Held.{Each, Runs, Settled, Counted, Timed, Seen, Raised, Pinned, Whole, AsArrived, AsWritten}
 use Rattle.promise.specs.After.{recorded, After, Answers, Same, Onward}
-use Rattle.promise.specs.Questions.{Told}
+use Rattle.promise.specs.Questions.{InEveryDevice, Told}
 use Rattle.promise.specs.Records.{Records}
 use Rattle.promise.specs.Own.{ownMessage}
 use Rattle.promise.proofs.Cases.{Case, lost, undue, unsettled, miscounted, mistimed, unseen, unraised, unwritten, unlike, misshown, unlikeItself}
-use Rattle.promise.proofs.Cases.{misjudged, misanswered, changing, mistold, astray, cases}
+use Rattle.promise.proofs.Cases.{misjudged, misanswered, changing, mistold, misasked, astray, cases}
 use Rattle.promise.proofs.Queues.{Shown}
 use Rattle.promise.proofs.Sides.{alike, alike-self, shownHits, allBytes, counts, settingBytes, levels, numbers, numbersDue, refusal, buffered, runningBytes, sides, differ}
 
@@ -47,6 +47,7 @@ Promise (misjudged w d i) = First w
 Promise (misanswered w d i) = Answered w
 Promise (changing w d i) = Refused w
 Promise (mistold ask is h count payload) = After shipped (Told ask)
+Promise (misasked ask d h count payload) = InEveryDevice ask
 Promise (astray w d r h i) = Onward w pins hits
 
 -- ---- each promise makes its two sides equal
@@ -102,6 +103,7 @@ equal (misjudged w d i) holds = ap (λ n. n ∷ []) (holds d i)
 equal (misanswered w d i) holds = ap (λ n. n ∷ []) (fits-refusal i (w d i .given) (holds d i .1))
 equal (changing w d i) holds = ap (λ n. n ∷ []) (left-count (eqb (numberGiven w d i) 0) d i (w d i) refl (holds d i))
 equal (mistold ask is h count payload) holds = ap shownHits (holds is h count payload)
+equal (misasked ask d h count payload) holds = ap shownHits (holds d h count payload)
 equal (astray w d r h i) holds = given-due r i (w d i .given) (holds d r h .1 i)
 
 -- ---- and in no case are they

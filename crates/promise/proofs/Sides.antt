@@ -63,9 +63,9 @@ use Rattle.promise.specs.Settings
 use Rattle.promise.specs.Settings.{Settings, settingsOf}
 use Rattle.bus.specs.declared.types.Hits.{Hits as HitsGiven}
 use Rattle.promise.specs.Arrivals.{matching}
-use Rattle.promise.specs.Questions.{unlessImpossible}
+use Rattle.promise.specs.Questions.{refused, unlessImpossible}
 use Rattle.promise.proofs.Cases.{Case, lost, undue, unsettled, miscounted, mistimed, unseen, unraised, unwritten, unlike, misshown, unlikeItself}
-use Rattle.promise.proofs.Cases.{misjudged, misanswered, changing, mistold, astray, cases}
+use Rattle.promise.proofs.Cases.{misjudged, misanswered, changing, mistold, misasked, astray, cases}
 
 -- ---- lists of numbers that differ
 
@@ -168,6 +168,10 @@ sides (mistold ask is h count payload) = (
   shownHits (ask (run shipped fresh is) h count payload),
   shownHits (unlessImpossible h count (matching (recorded shipped is .settings) h payload)),
 )
+sides (misasked ask d h count payload) = (
+  shownHits (ask d h count payload),
+  shownHits (pick (Ranges.deviceInRange d) (unlessImpossible h count (ask d h count payload .set)) (refused 1)),
+)
 sides (astray w d r holds i) = (numbers i (w d i .given), numbersDue r i)
 
 pub differ : map (λ c. alike (sides c .0) (sides c .1)) cases ≡ replicate (length cases) false
@@ -180,7 +184,7 @@ unfolding Transfer.transfer Transfer.replyAfter Refused.lengthFits Refused.setsU
     Receive.hits Receive.ownFrame Receive.filtersAndRoom Receive.isQueued Receive.queuedFlag Receive.filterFlag Receive.queueAfter
     Receive.arrived FilterHits.hits FilterHits.filhit Match.matches Length.dataLength Length.dataBytes Length.possible Length.dataFits Length.dataOf
     Ranges.deviceInRange Filters.hitsOf Hits.filhitOf Received.received Received.headerIn Tables.idBits Tables.idToSend Tables.idAsRead Tables.compared Judged.quietMode Judged.noErrors Judged.runs
-    Judged.impossibleFrame Judged.impossible Judged.takesNoFrames Judged.unacknowledged Judged.reason Judged.said Judged.fromTheBus Judged.nothing Judged.brought Changed.errBit
+    Judged.impossibleFrame Judged.impossible Judged.takesNoFrames Judged.unacknowledged Judged.reason Judged.said Judged.busFrame Judged.nothing Judged.brings Changed.errBit
     Changed.countedFrame Changed.heard Changed.taken Changed.reachesTemporary Changed.countedReceiveError Changed.receiveErrorMet Changed.dominantMet
     Changed.countedTransmitError Changed.transmitErrorMet Changed.recessiveMet Changed.ticked Changed.pinSet Changed.arrival Changed.after
     Event.numberOf Event.reasonOf Event.valuesOf Event.answered Event.answer Event.event BusHits.hits Rules.receiveError Rules.dominantBit Rules.goodFrame Rules.transmitError

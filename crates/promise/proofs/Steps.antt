@@ -13,7 +13,7 @@ use Rattle.chip.specs.Proper.{proper}
 use Rattle.events.specs.declared.Event.{Event}
 use Rattle.judged.specs.declared.Answer.{Answer}
 use Rattle.judged.specs.declared.Answer.the-variants.{Refused as RefusedEvent}
-use Rattle.judged.specs.Judged.{impossible, said, brought}
+use Rattle.judged.specs.Judged.{impossible, said, brings}
 use Rattle.bus.specs.declared.types.Outcome.{Outcome}
 use Rattle.receive.specs.Receive.{hits}
 use Rattle.bus.specs.Event.{answered as answeredBy, answer, outcome, event}
@@ -121,10 +121,10 @@ refusedEvent d n = record { device = d; given = answered (RefusedEvent n) }
 
 -- by what it brings, and the filters that this hits
 abbrev pub saidOf : Device → Event → List ℕ → Answer
-saidOf d e payload = let b = brought d e payload in said d b (hits d b)
+saidOf d e payload = let b = brings d e payload in said d b (hits d b)
 
 abbrev pub outcomeOf : Device → Event → List ℕ → Answer → Outcome
-outcomeOf d e payload a = let b = brought d e payload in outcome d e b (hits d b) a
+outcomeOf d e payload a = let b = brings d e payload in outcome d e b (hits d b) a
 
 abbrev pub doneEvent : Device → Event → List ℕ → Answer → Step
 doneEvent d e payload a = record { device = outcomeOf d e payload a .device; given = answered (outcomeOf d e payload a .answer) }

@@ -25,7 +25,7 @@ time r = r .ticks % 65536
 abbrev pub matching : Settings → Header → List ℕ → ℕ
 matching s h payload = hitsOf (s .filters) (s .masks) (compared h payload)
 
--- those that it hits: "with FILTON at 0" FILHIT "is 0000", since none is asked
+-- those that it hits: "with FILTON at 0 it is 0000", since none is asked
 abbrev pub hitsNow : Settings → Header → List ℕ → ℕ
 hitsNow s h payload = pick (filton s) (matching s h payload) 0
 

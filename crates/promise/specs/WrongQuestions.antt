@@ -29,6 +29,12 @@ reversed = telling (λ d set. asBits (map (λ k. isSet (7 - k) set) eight))
 abbrev pub withoutSeven : Question
 withoutSeven = telling (λ d set. set % 128)
 
+-- 0 for a device that is out of range
+abbrev pub anyDevice : Question
+anyDevice d h count payload =
+    let given = hits d h count payload in
+    record { number = pick (eqb (given .number) 1) 0 (given .number); set = given .set }
+
 -- the set, however many data bytes the frame has
 abbrev pub anyFrame : Question
 anyFrame d h count payload = hits d h (dataCount h) payload

@@ -19,7 +19,7 @@ use Rattle.chip.specs.State.{monitor, sleep, alone}
 use Rattle.chip.specs.Parts.{with-rx, with-counters, with-acting, with-regs, with-ctrl0, with-ctrl1, with-errs}
 use Rattle.chip.specs.Parts.{with-intf, with-hits}
 use Rattle.receive.specs.Receive.{hits, message}
-use Rattle.judged.specs.Judged.{fromTheBus}
+use Rattle.judged.specs.Judged.{busFrame}
 use Rattle.bus.specs.declared.types.Pins.{Pins}
 use Rattle.bus.specs.Pins.{pins}
 use Rattle.promise.specs.Sequence.{spi, wire, Given, replied, answered, Step, Machine, shipped, done}
@@ -139,7 +139,7 @@ abbrev pub hitNow : Device → Message → Message
 hitNow d m =
     let h = headerIn (m .bytes) in
     let bytes = dataIn (m .bytes) in
-    record { bytes = byte (message d h bytes (hits d (fromTheBus h true bytes)) .bytes) 1 ∷ drop 1 (m .bytes) }
+    record { bytes = byte (message d h bytes (hits d (busFrame h true bytes)) .bytes) 1 ∷ drop 1 (m .bytes) }
 
 -- a hit computed at read time
 abbrev pub hitAtRead : Machine

@@ -6,7 +6,7 @@ use Rattle.bus.proofs.answer.Tie as tie
 
 returns : tie.Need-returns
 unfolding answer
-returns c = rw (c .answered .ensures, c .before .hits .ensures, c .before .before .brought .ensures)
+returns c = rw (c .answered .ensures, c .before .hits .ensures, c .before .before .brings .ensures)
 
 pub answer-spec : {M : Type 1} → statement M
 answer-spec = tie.close (tie.spec (search needs) (search needs) (search needs) returns)

@@ -8,7 +8,7 @@ use Rattle.bus.proofs.event.Tie as tie
 -- the answer that the code found is the rule's
 told : (c : tie.After-answered) → let a = c .before .before .before .args in answer (a .d) (a .e) (a .payload) ≡ c .answered .result
 unfolding answer
-told c = rw (← c .before .before .brought .ensures, ← c .before .hits .ensures) (sym (c .answered .ensures))
+told c = rw (← c .before .before .brings .ensures, ← c .before .hits .ensures) (sym (c .answered .ensures))
 
 returns : tie.Need-returns
 unfolding event
@@ -22,7 +22,7 @@ returns-3 : tie.Need-returns-3
 unfolding event
 returns-3 c =
     let before = c .before .before .before .before in
-    rw (told before ∙ c .before .before .a2 .given .1, ← before .before .before .brought .ensures, ← before .before .hits .ensures, c .arrival .ensures)
+    rw (told before ∙ c .before .before .a2 .given .1, ← before .before .before .brings .ensures, ← before .before .hits .ensures, c .arrival .ensures)
 
 pub event-spec : {M : Type 1} → statement M
 event-spec =

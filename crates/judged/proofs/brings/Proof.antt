@@ -1,20 +1,20 @@
--- `judged::brought` meets its contract. Assumes nothing.
-use Rattle.judged.specs.Judged.{brought}
+-- `judged::brings` meets its contract. Assumes nothing.
+use Rattle.judged.specs.Judged.{brings}
 use borrow.Author.Needs.{needs}
-use Rattle.judged.proofs.brought.Statement.{statement}
-use Rattle.judged.proofs.brought.Tie as tie
+use Rattle.judged.proofs.brings.Statement.{statement}
+use Rattle.judged.proofs.brings.Tie as tie
 
 returns : tie.Need-returns
-unfolding brought
-returns c = rw (c .before .before .e .given .1) (c .from-the-bus .ensures)
+unfolding brings
+returns c = rw (c .before .before .e .given .1) (c .bus-frame .ensures)
 
 returns-2 : tie.Need-returns-2
-unfolding brought
+unfolding brings
 returns-2 c = rw (c .before .enum-told .given .1) (c .own-frame .ensures)
 
-pub brought-spec : {M : Type 1} → statement M
-unfolding brought
-brought-spec =
+pub brings-spec : {M : Type 1} → statement M
+unfolding brings
+brings-spec =
     tie.close
     (tie.spec (search needs) (search needs) (search needs) (search needs) (search needs) (search needs) (search needs) (search needs)
     (search needs) (search needs) (search needs) (search needs) (search needs) (search needs) (search needs) (search needs) (search needs)
