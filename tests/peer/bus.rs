@@ -105,7 +105,7 @@ impl Device {
         Ok(None)
     }
 
-    fn good_frame(&mut self, frame: Frame, acknowledged: bool) -> Fate {
+    pub fn good_frame(&mut self, frame: Frame, acknowledged: bool) -> Fate {
         match self.acting {
             Mode::Sleep => {
                 // The frame that wakes is itself lost.

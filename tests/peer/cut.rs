@@ -1,6 +1,6 @@
 //! Cuts a script down to the lines that are needed to show a difference.
 
-/// Tells at which line the answers first differ, if at all.
+/// Tells how many lines it takes to show a difference, if there is one.
 pub type Differs<'a> = dyn FnMut(&[String]) -> Option<usize> + 'a;
 
 /// Ends with a script of which no single line can be dropped.
@@ -19,8 +19,8 @@ pub fn cut(script: &[String], differs: &mut Differs) -> Vec<String> {
 /// Takes over a shorter or simpler script if it still shows a difference.
 fn accept(script: &mut Vec<String>, mut trial: Vec<String>, differs: &mut Differs) -> bool {
     match differs(&trial) {
-        Some(last) => {
-            trial.truncate(last + 1);
+        Some(needed) => {
+            trial.truncate(needed);
             *script = trial;
             true
         }

@@ -5,13 +5,15 @@ use crate::commands::TABLE_1;
 use crate::device::{Device, Mode};
 use crate::draw_text::decorate;
 use crate::random::Random;
+use crate::said::Model;
 use crate::script::Session;
 
 pub struct Drawer {
     pub random: Random,
     pub script: Vec<String>,
     session: Session,
-    goal: usize,
+    /// No request is said any more once there are so many.
+    pub goal: usize,
 }
 
 type Scene = fn(&mut Drawer);
@@ -44,6 +46,9 @@ const SCENES: [(Scene, usize); 23] = [
     (Drawer::anything, 5),
 ];
 
+/// How much a script likes each scene.
+pub type Habits = [usize; SCENES.len()];
+
 /// Reads that leave everything as it is.
 const PEEKS: [u8; 24] = [
     0xE2, 0xDA, 0xE2, 0xDA, 0xD2, 0xD4, 0xEA, 0xEC, 0xF8, 0xFA, 0x42, 0x44, 0xD6, 0xD8, 0xE4, 0xE6,
@@ -53,13 +58,8 @@ pub const FIFO_READS: [u8; 4] = [0x46, 0x48, 0x4A, 0x4C];
 
 /// A script of that many requests. Its last part looks at all that is left in the device.
 pub fn draw(seed: u64, requests: usize) -> Vec<String> {
-    let mut drawer = Drawer {
-        random: Random::new(seed),
-        script: Vec::new(),
-        session: Session::fresh(),
-        goal: requests,
-    };
-    let habits = SCENES.map(|(_, weight)| weight * drawer.random.pick(&[0, 1, 1, 1, 3]));
+    let mut drawer = Drawer::new(seed, requests);
+    let habits = drawer.habits();
     let body = if requests > 120 {
         requests - 45
     } else {
@@ -69,13 +69,7 @@ pub fn draw(seed: u64, requests: usize) -> Vec<String> {
     if drawer.random.chance(50) {
         drawer.set_filters();
     }
-    while drawer.script.len() < body {
-        drawer.leave_dead_end();
-        drawer.scene(&habits);
-        for _ in 0..drawer.random.pick(&[0, 0, 1, 1, 2]) {
-            drawer.peek();
-        }
-    }
+    drawer.play(&habits, body);
     drawer.look_at_everything();
     while drawer.script.len() < requests {
         drawer.anything();
@@ -90,6 +84,30 @@ pub fn text(script: &[String]) -> String {
 }
 
 impl Drawer {
+    pub fn new(seed: u64, goal: usize) -> Drawer {
+        Drawer {
+            random: Random::new(seed),
+            script: Vec::new(),
+            session: Session::fresh(),
+            goal,
+        }
+    }
+
+    pub fn habits(&mut self) -> Habits {
+        SCENES.map(|(_, weight)| weight * self.random.pick(&[0, 1, 1, 1, 3]))
+    }
+
+    /// Scenes, until there are so many requests.
+    pub fn play(&mut self, habits: &Habits, requests: usize) {
+        while self.script.len() < requests {
+            self.leave_dead_end();
+            self.scene(habits);
+            for _ in 0..self.random.pick(&[0, 0, 1, 1, 2]) {
+                self.peek();
+            }
+        }
+    }
+
     pub fn device(&self) -> &Device {
         &self.session.device
     }
@@ -147,7 +165,7 @@ impl Drawer {
         }
     }
 
-    fn scene(&mut self, habits: &[usize; SCENES.len()]) {
+    fn scene(&mut self, habits: &Habits) {
         let total: usize = habits.iter().sum();
         let mut place = self.random.below(total + 1);
         for (&(scene, _), &weight) in SCENES.iter().zip(habits) {

@@ -27,9 +27,9 @@ impl Drawer {
         frame
     }
 
-    pub fn say_frame(&mut self, Words { header, data }: &Words) {
-        let acknowledged = self.random.pick(&["ack", "ack", "ack", "noack"]);
-        self.say(&format!("frame {} {}{}", header, acknowledged, data));
+    pub fn say_frame(&mut self, words: &Words) {
+        let acknowledged = self.random.below(4) < 3;
+        self.say(&words.arriving(acknowledged));
     }
 
     pub fn one_arrival(&mut self) {
@@ -84,7 +84,7 @@ impl Drawer {
     }
 
     /// Each filter and each mask with this chance.
-    fn write_filters(&mut self, percent: usize) {
+    pub fn write_filters(&mut self, percent: usize) {
         let weak_from = self.random.pick(&[0, 3, 7, 8, 8, 8]);
         let alike = self.random.chance(50);
         for &(command, _, _, job) in TABLE_1 {
@@ -94,9 +94,7 @@ impl Drawer {
                 _ => continue,
             };
             if self.random.chance(percent) {
-                let mut bytes = vec![command];
-                bytes.extend_from_slice(&written);
-                self.spi(&bytes);
+                self.spi(&[&[command][..], &written[..]].concat());
             }
         }
     }
@@ -134,7 +132,7 @@ impl Drawer {
     }
 
     /// A frame that one filter lets pass, but for at most one bit.
-    fn frame_at_filter(&mut self) -> Frame {
+    pub fn frame_at_filter(&mut self) -> Frame {
         let n = self.random.below(8);
         let mut wanted = self.device().filters[n];
         let mask = self.device().masks[n];

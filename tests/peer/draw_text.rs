@@ -50,6 +50,11 @@ impl Words {
             data: frame.data.iter().map(|b| format!(" {:02X}", b)).collect(),
         }
     }
+
+    pub fn arriving(&self, acknowledged: bool) -> String {
+        let acknowledged = if acknowledged { "ack" } else { "noack" };
+        format!("frame {} {}{}", self.header, acknowledged, self.data)
+    }
 }
 
 /// Says the same in another way: blanks, comments, empty lines before it.
@@ -113,16 +118,25 @@ impl Drawer {
         }
     }
 
+    /// As long as a line may be, or a few blanks longer.
+    pub fn stretched(&mut self, line: &str) -> String {
+        let blanks = LONGEST_LINE - line.len() + self.random.below(4);
+        line.to_string() + &" ".repeat(blanks)
+    }
+
+    pub fn unreadable_line(&mut self) -> &'static str {
+        let lines: Vec<&str> = UNREADABLE.split('|').collect();
+        self.random.pick(&lines)
+    }
+
     pub fn anything(&mut self) {
         match self.random.below(14) {
             0 if self.random.chance(5) => {
-                // As long as a line may be, or a few blanks longer.
-                let blanks = LONGEST_LINE - "spi D2".len() + self.random.below(4);
-                self.say(&format!("spi D2{}", " ".repeat(blanks)));
+                let line = self.stretched("spi D2");
+                self.say(&line);
             }
             0 => {
-                let lines: Vec<&str> = UNREADABLE.split('|').collect();
-                let line = self.random.pick(&lines);
+                let line = self.unreadable_line();
                 self.say(line);
             }
             1 => self.say("spi"),

@@ -1,5 +1,5 @@
 //! A second model of the register face, written from the documents alone, and what it takes to hold
-//! it against the program `face`. See README.md.
+//! it against the programs `face` and `why`. See README.md.
 
 mod bus;
 mod commands;
@@ -10,46 +10,53 @@ mod draw;
 mod draw_corners;
 mod draw_errors;
 mod draw_host;
+mod draw_near;
 mod draw_receive;
 mod draw_text;
 mod draw_transmit;
+mod draw_why;
 mod frame;
 mod host;
 mod hostile;
 mod noise;
 mod random;
 mod request;
+mod said;
 mod script;
+mod tally;
+mod why;
 
+use noise::Noise;
+use said::Model;
+use script::Session;
 use std::io::{Error, Read, Write};
 use std::process::ExitCode;
+use why::Why;
 
 const USAGE: &str = "usage: peer answers < SCRIPT
+       peer why < SCRIPT
        peer draw SEED LINES
+       peer draw-why SEED
        peer compare FACE SEED LINES [-v]
-       peer hostile FACE SEED BYTES [-v]";
+       peer compare-why WHY SEED SCRIPTS [-v]
+       peer hostile FACE SEED BYTES [-v]
+       peer hostile-why WHY SEED BYTES [-v]";
 
 /// Answers each line as soon as it is complete, also on a pipe.
-fn answer_input() -> Result<(), Error> {
+fn answer_input(mut model: impl Model) -> Result<(), Error> {
     let (mut input, mut output) = (std::io::stdin().lock(), std::io::stdout().lock());
-    let mut session = script::Session::fresh();
     let mut buffer = [0; 65536];
     loop {
         let length = input.read(&mut buffer)?;
-        let mut text = String::new();
         for &byte in &buffer[..length] {
-            if let Some(answer) = session.byte(byte) {
-                text = text + &answer + "\n";
+            if let Some(said) = model.byte(byte) {
+                writeln!(output, "{}", said.text())?;
             }
         }
         if length == 0 {
-            if let Some(answer) = session.end_of_line() {
-                text = answer + "\n";
+            for said in model.end() {
+                writeln!(output, "{}", said.text())?;
             }
-        }
-        output.write_all(text.as_bytes())?;
-        output.flush()?;
-        if length == 0 {
             return Ok(());
         }
     }
@@ -62,19 +69,34 @@ fn run(words: &[&str]) -> Option<Result<bool, Error>> {
         _ => (words, false),
     };
     match words {
-        ["answers"] => Some(answer_input().map(|()| true)),
+        ["answers"] => Some(answer_input(Session::fresh()).map(|()| true)),
+        ["why"] => Some(answer_input(Why::fresh()).map(|()| true)),
         ["draw", seed, lines] => {
             let script = draw::draw(seed.parse().ok()?, lines.parse().ok()?);
             let output = std::io::stdout().write_all(draw::text(&script).as_bytes());
+            Some(output.map(|()| true))
+        }
+        ["draw-why", seed] => {
+            let script = draw_why::draw_why(seed.parse().ok()?);
+            let output = std::io::stdout().write_all(draw_why::why_text(&script).as_bytes());
             Some(output.map(|()| true))
         }
         ["compare", face, seed, lines] => {
             let (seed, lines) = (seed.parse().ok()?, lines.parse().ok()?);
             Some(compare::compare(face, seed, lines, verbose))
         }
+        ["compare-why", why, seed, scripts] => {
+            let (seed, scripts) = (seed.parse().ok()?, scripts.parse().ok()?);
+            Some(compare::compare_why(why, seed, scripts, verbose))
+        }
         ["hostile", face, seed, bytes] => {
-            let (seed, bytes) = (seed.parse().ok()?, bytes.parse().ok()?);
-            Some(hostile::hostile(face, seed, bytes, verbose).map(|()| true))
+            let noise = Noise::new(seed.parse().ok()?, bytes.parse().ok()?, b"spi D2");
+            Some(hostile::hostile(face, Session::fresh(), noise, verbose).map(|()| true))
+        }
+        ["hostile-why", why, seed, bytes] => {
+            let last = b"frame 123 std data 2 ack AA 55";
+            let noise = Noise::new(seed.parse().ok()?, bytes.parse().ok()?, last);
+            Some(hostile::hostile(why, Why::fresh(), noise, verbose).map(|()| true))
         }
         _ => None,
     }

@@ -4,19 +4,24 @@ use crate::draw::{draw, text};
 use crate::random::Random;
 use crate::script::LONGEST_LINE;
 
-/// The last line of all has no newline, and is a request.
-const LAST: &[u8] = b"\nspi D2";
-
+#[derive(Clone)]
 pub struct Noise {
     random: Random,
+    pub bytes: usize,
     left: usize,
+    short_lines_come: bool,
+    last: &'static [u8],
 }
 
 impl Noise {
-    pub fn new(seed: u64, bytes: usize) -> Noise {
+    /// The last line of all is given; it gets no newline.
+    pub fn new(seed: u64, bytes: usize, last: &'static [u8]) -> Noise {
         Noise {
             random: Random::new(seed),
+            bytes,
             left: bytes,
+            short_lines_come: true,
+            last,
         }
     }
 
@@ -25,17 +30,32 @@ impl Noise {
             return None;
         }
         let mut chunk = match self.random.below(20) {
+            _ if self.short_lines_come && self.left < self.bytes / 2 => self.short_lines(),
             0 => self.long_line(),
             1 | 2 => self.pure_chance(),
             _ => self.damaged_script(),
         };
-        if chunk.len() + LAST.len() >= self.left {
-            chunk.truncate(self.left.saturating_sub(LAST.len()));
-            chunk.extend_from_slice(LAST);
+        if chunk.len() + 1 + self.last.len() >= self.left {
+            chunk.truncate(self.left.saturating_sub(1 + self.last.len()));
+            chunk.push(b'\n');
+            chunk.extend_from_slice(self.last);
             chunk.truncate(self.left);
         }
         self.left -= chunk.len();
         Some(chunk)
+    }
+
+    /// Comes once, half-way. With a million bytes in all it is a hundred thousand lines, so that the numbers of those
+    /// after them need more than sixteen bits.
+    fn short_lines(&mut self) -> Vec<u8> {
+        self.short_lines_come = false;
+        let lines = ["", "", "", "#", "x", "mr", "spi"];
+        let mut chunk = Vec::new();
+        for _ in 0..self.bytes / 10 {
+            chunk.extend_from_slice(self.random.pick(&lines).as_bytes());
+            chunk.push(b'\n');
+        }
+        chunk
     }
 
     fn pure_chance(&mut self) -> Vec<u8> {

@@ -1,5 +1,6 @@
 //! A seeded generator (splitmix64): the same seed draws the same script on every machine.
 
+#[derive(Clone)]
 pub struct Random(u64);
 
 impl Random {

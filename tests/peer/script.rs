@@ -1,7 +1,10 @@
-//! A script, byte by byte: its lines, and the text of each answer.
+//! A script, byte by byte: its lines, and the model of `face`, which answers each.
 
+use crate::bus::Impossible;
 use crate::device::Device;
-use crate::request::{read, Request, Unreadable};
+use crate::host::Refusal;
+use crate::request::{read, Expected, Request, Unreadable};
+use crate::said::{Model, Said};
 
 /// A longer line, counted from its first word up to any `#`, is not looked into.
 pub const LONGEST_LINE: usize = 65536;
@@ -9,16 +12,22 @@ pub const LONGEST_LINE: usize = 65536;
 /// Of a longer word this many bytes are told.
 const LONGEST_WORD: usize = 16;
 
-const EXPECTED: &str = ": expected ";
-const READ: &str = ", read ";
+const IMPOSSIBLE: Refusal = 8;
 
-pub struct Session {
-    pub device: Device,
-    line_number: u64,
+/// Cuts a script into lines.
+pub struct Lines {
+    number: u64,
     /// The line so far, from its first word up to any `#`; one byte more than the longest is
     /// enough to tell.
     line: Vec<u8>,
     in_comment: bool,
+}
+
+/// A line that is neither blank nor a comment.
+pub struct Line {
+    pub number: u64,
+    /// Else what is said of a line that can't be read.
+    pub read: Result<Request, Said>,
 }
 
 fn blank(byte: u8) -> bool {
@@ -44,23 +53,33 @@ fn told(word: &[u8]) -> String {
     format!("\"{}\"{}", shown, more)
 }
 
-impl Session {
-    pub fn fresh() -> Session {
-        Session {
-            device: Device::fresh(),
-            line_number: 1,
+/// How it is named what was expected is free.
+fn unreadable(line: u64, expected: Expected, read: &str) -> Said {
+    let start = format!("line {}: expected ", line);
+    Said::freely(start, expected, format!(", read {}", read))
+}
+
+impl Lines {
+    pub fn new() -> Lines {
+        Lines {
+            number: 1,
             line: Vec::new(),
             in_comment: false,
         }
     }
 
-    /// The answer, if this byte completes a request line.
-    pub fn byte(&mut self, byte: u8) -> Option<String> {
+    /// Of the line in hand; every line counts, and each newline begins one.
+    pub fn number(&self) -> u64 {
+        self.number
+    }
+
+    /// The line, if this byte completes one that has something in it.
+    pub fn byte(&mut self, byte: u8) -> Option<Line> {
         match byte {
             b'\n' => {
-                let answer = self.end_of_line();
-                self.line_number += 1;
-                return answer;
+                let line = self.end_of_line();
+                self.number += 1;
+                return line;
             }
             b'#' => self.in_comment = true,
             _ if self.in_comment || self.line.is_empty() && blank(byte) => {}
@@ -71,81 +90,84 @@ impl Session {
     }
 
     /// Also for the end of the input, where the last line may lack its newline.
-    pub fn end_of_line(&mut self) -> Option<String> {
+    pub fn end_of_line(&mut self) -> Option<Line> {
         let line = std::mem::take(&mut self.line);
         self.in_comment = false;
         if line.is_empty() {
             return None;
         }
-        if line.len() > LONGEST_LINE {
-            return Some(self.unreadable("a line of at most 65536 bytes", "a longer one"));
+        let number = self.number;
+        let read = if line.len() > LONGEST_LINE {
+            let expected = "a line of at most 65536 bytes";
+            Err(unreadable(number, expected, "a longer one"))
+        } else {
+            let words = line.split(|&byte| blank(byte));
+            let words: Vec<&[u8]> = words.filter(|word| !word.is_empty()).collect();
+            read(&words)
+                .map_err(|Unreadable { expected, word }| unreadable(number, expected, &told(word)))
+        };
+        Some(Line { number, read })
+    }
+}
+
+/// The text of an answer 0, or the number of a refusal.
+pub fn answer(device: &mut Device, request: Request) -> Result<String, Refusal> {
+    Ok(match request {
+        Request::Transfer { bytes, reply_room } => {
+            let reply = device.transfer(&bytes, reply_room)?;
+            reply.iter().fold("0".to_string(), |mut text, byte| {
+                text.push_str(&format!(" {:02X}", byte));
+                text
+            })
         }
-        let words = line.split(|&byte| blank(byte));
-        let words: Vec<&[u8]> = words.filter(|word| !word.is_empty()).collect();
-        Some(match read(&words) {
-            Ok(request) => self.answer(request),
-            Err(Unreadable { expected, word }) => self.unreadable(expected, &told(word)),
-        })
+        Request::Event(event) => match device.event(event).map_err(|Impossible| IMPOSSIBLE)? {
+            None => "0".to_string(),
+            Some(fate) => format!("0 {}", fate),
+        },
+        Request::Hits(told) => {
+            let hits = device.hits(&told.possible().map_err(|Impossible| IMPOSSIBLE)?);
+            format!("0 {:02X} {}", hits, hits.count_ones())
+        }
+        Request::Pins => {
+            let [int, stat, gp1, gp2] = device.pins().map(u8::from);
+            format!("int={} stat={} gp1={} gp2={}", int, stat, gp1, gp2)
+        }
+    })
+}
+
+/// One line for each request, as soon as it is complete.
+pub struct Session {
+    pub device: Device,
+    lines: Lines,
+}
+
+impl Session {
+    pub fn fresh() -> Session {
+        Session {
+            device: Device::fresh(),
+            lines: Lines::new(),
+        }
     }
 
-    fn unreadable(&self, expected: &str, read: &str) -> String {
-        let line = self.line_number;
-        format!("? line {}{}{}{}{}", line, EXPECTED, expected, READ, read)
-    }
-
-    fn answer(&mut self, request: Request) -> String {
-        match request {
-            Request::Transfer { bytes, reply_room } => {
-                match self.device.transfer(&bytes, reply_room) {
-                    Ok(reply) => reply.iter().fold("0".to_string(), |mut text, byte| {
-                        text.push_str(&format!(" {:02X}", byte));
-                        text
-                    }),
-                    Err(number) => number.to_string(),
-                }
+    fn say(&mut self, line: Line) -> Said {
+        match line.read {
+            Ok(request) => {
+                let answer = answer(&mut self.device, request);
+                Said::exactly(answer.unwrap_or_else(|number| number.to_string()))
             }
-            Request::Event(event) => match self.device.event(event) {
-                Ok(None) => "0".to_string(),
-                Ok(Some(fate)) => format!("0 {}", fate),
-                Err(_) => "8".to_string(),
-            },
-            Request::Hits(told) => match told.possible() {
-                Ok(frame) => {
-                    let hits = self.device.hits(&frame);
-                    format!("0 {:02X} {}", hits, hits.count_ones())
-                }
-                Err(_) => "8".to_string(),
-            },
-            Request::Pins => {
-                let [int, stat, gp1, gp2] = self.device.pins().map(u8::from);
-                format!("int={} stat={} gp1={} gp2={}", int, stat, gp1, gp2)
-            }
+            Err(unreadable) => unreadable.after("? "),
         }
     }
 }
 
-/// What is fixed of the answer to an unreadable line: all but how it names what was expected.
-fn fixed(model: &str) -> Option<(&str, &str)> {
-    let start = model.find(EXPECTED)? + EXPECTED.len();
-    // A word has no blanks, so the last is the one before what was read.
-    let end = model.rfind(READ)?;
-    Some((&model[..start], &model[end..]))
-}
-
-/// Whether the program's answer agrees with the model's.
-pub fn agrees(program: &[u8], model: &str) -> bool {
-    match fixed(model) {
-        Some((start, end)) => {
-            program.starts_with(start.as_bytes()) && program.ends_with(end.as_bytes())
-        }
-        None => program == model.as_bytes(),
+impl Model for Session {
+    fn byte(&mut self, byte: u8) -> Option<Said> {
+        let line = self.lines.byte(byte)?;
+        Some(self.say(line))
     }
-}
 
-/// All answers to a script.
-pub fn answers(script: &[u8]) -> Vec<String> {
-    let mut session = Session::fresh();
-    let mut answers: Vec<String> = script.iter().filter_map(|&b| session.byte(b)).collect();
-    answers.extend(session.end_of_line());
-    answers
+    fn end(&mut self) -> Vec<Said> {
+        let line = self.lines.end_of_line();
+        line.map(|line| self.say(line)).into_iter().collect()
+    }
 }

@@ -12,12 +12,29 @@ use frame::Header;
 use judged::Answer;
 use line::Asked;
 use line::Expected;
+use line::Line;
 use receive::Arrival;
+
+// A line that is longer than the buffer.
+pub(crate) fn long_line() -> Line {
+    Line {
+        asked: Asked::Unreadable(Expected::Shorter),
+        bytes: [0; 16],
+        count: 0,
+    }
+}
 
 // The device after a line, and the place after its answer.
 pub struct Turn {
     pub device: Device,
     pub used: usize,
+}
+
+// The line that something is told of.
+pub(crate) fn line_number(out: &mut [u8], at: usize, number: u64) -> usize {
+    let n = text(out, at, b"line ");
+    let n = decimal(out, n, number);
+    text(out, n, b": ")
 }
 
 // What was expected, so that a person knows what to write.
@@ -40,19 +57,8 @@ fn expected(out: &mut [u8], at: usize, e: Expected) -> usize {
         Expected::Count => text(out, at, b"a number of ticks in decimal, as 70000"),
         Expected::ZeroOrOne => text(out, at, b"0 or 1"),
         Expected::EndOfLine => text(out, at, b"the end of the line"),
+        Expected::Shorter => text(out, at, b"a line of at most 65536 bytes"),
     }
-}
-
-fn complaint(out: &mut [u8], at: usize, number: u64) -> usize {
-    let n = text(out, at, b"? line ");
-    let n = decimal(out, n, number);
-    text(out, n, b": expected ")
-}
-
-pub(crate) fn too_long(out: &mut [u8], at: usize, number: u64) -> usize {
-    let n = complaint(out, at, number);
-    let n = text(out, n, b"a line of at most 65536 bytes, read a longer one");
-    raw(out, n, b'\n')
 }
 
 // A word between quotes, as far as it is there: `count` is the length of the whole.
@@ -78,7 +84,15 @@ fn read(out: &mut [u8], at: usize, word: [u8; 16], count: usize) -> usize {
     }
 }
 
-fn unreadable(
+// Of a line that is too long no word is kept.
+fn instead(e: Expected, word: [u8; 16], count: usize, out: &mut [u8], at: usize) -> usize {
+    match e {
+        Expected::Shorter => text(out, at, b", read a longer one"),
+        _ => read(out, at, word, count),
+    }
+}
+
+pub(crate) fn unreadable(
     e: Expected,
     word: [u8; 16],
     count: usize,
@@ -86,9 +100,10 @@ fn unreadable(
     out: &mut [u8],
     at: usize,
 ) -> usize {
-    let n = complaint(out, at, number);
+    let n = line_number(out, at, number);
+    let n = text(out, n, b"expected ");
     let n = expected(out, n, e);
-    let n = read(out, n, word, count);
+    let n = instead(e, word, count, out, n);
     raw(out, n, b'\n')
 }
 
@@ -102,15 +117,20 @@ fn transfer(d: Device, given: [u8; 16], count: usize, lent: u8, out: &mut [u8], 
     Turn { device, used }
 }
 
-fn arrived(out: &mut [u8], at: usize, what: Arrival) -> usize {
+pub(crate) fn word(out: &mut [u8], at: usize, what: Arrival) -> usize {
     match what {
-        Arrival::Queued => text(out, at, b"0 Queued"),
-        Arrival::A1 => text(out, at, b"0 A1"),
-        Arrival::A2 => text(out, at, b"0 A2"),
-        Arrival::A3 => text(out, at, b"0 A3"),
-        Arrival::A4 => text(out, at, b"0 A4"),
-        Arrival::A5 => text(out, at, b"0 A5"),
+        Arrival::Queued => text(out, at, b"Queued"),
+        Arrival::A1 => text(out, at, b"A1"),
+        Arrival::A2 => text(out, at, b"A2"),
+        Arrival::A3 => text(out, at, b"A3"),
+        Arrival::A4 => text(out, at, b"A4"),
+        Arrival::A5 => text(out, at, b"A5"),
     }
+}
+
+fn arrived(out: &mut [u8], at: usize, what: Arrival) -> usize {
+    let n = text(out, at, b"0 ");
+    word(out, n, what)
 }
 
 fn said(out: &mut [u8], at: usize, a: Answer) -> usize {
@@ -160,8 +180,7 @@ fn hits(d: Device, h: Header, given: usize, data: [u8; 16], out: &mut [u8], at: 
 }
 
 // A blank line has no answer.
-pub(crate) fn answer(d: Device, line: &[u8], number: u64, out: &mut [u8], at: usize) -> Turn {
-    let l = line::read_line(line);
+pub(crate) fn answer(d: Device, l: Line, number: u64, out: &mut [u8], at: usize) -> Turn {
     let asked = l.asked;
     let given = l.bytes;
     let count = l.count;
@@ -181,7 +200,8 @@ pub(crate) fn answer(d: Device, line: &[u8], number: u64, out: &mut [u8], at: us
             Turn { device: d, used }
         }
         Asked::Unreadable(e) => {
-            let used = unreadable(e, given, count, number, out, at);
+            let n = text(out, at, b"? ");
+            let used = unreadable(e, given, count, number, out, n);
             Turn { device: d, used }
         }
     }

@@ -6,6 +6,7 @@ use chip::Device;
 use commands::Found;
 use events::Event;
 use frame::Header;
+use why::Why;
 
 // What a transfer did: its number and, where that is 0, the reply.
 pub struct Transferred {
@@ -67,4 +68,14 @@ pub(crate) fn happens(d: Device, event: Event, b: [u8; 16]) -> Outcome {
 
 pub(crate) fn hits(d: Device, h: Header, given: usize, b: [u8; 16]) -> Hits {
     bus::hits(d, h, given, payload(b))
+}
+
+pub(crate) fn explained(
+    d: Device,
+    h: Header,
+    acknowledged: bool,
+    given: usize,
+    b: [u8; 16],
+) -> Why {
+    why::explained(d, h, acknowledged, given, payload(b))
 }

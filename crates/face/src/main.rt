@@ -1,13 +1,18 @@
 // A script of transfers and bus events in, one line of answer for each request out, in constant memory. It reads a
-// chunk, answers the lines that end in it, writes the answers and reads on.
+// chunk, answers the lines that end in it, writes the answers and reads on. With an argument, as the command `why` has
+// it, it explains the script's last frame instead.
 mod answers;
 mod device;
+mod explain;
 mod lines;
+mod reason;
 mod text;
 
 use chip::Device;
+use explain::Last;
 use libc::STDIN_FILENO;
 use libc::STDOUT_FILENO;
+use line::Line;
 use lines::Held;
 
 // An answer is shorter than what is left past here.
@@ -16,6 +21,9 @@ const NEARLY_FULL: usize = 65000;
 // The run so far. The line that is being read, and the answers that wait to be written, stand in buffers beside it.
 struct Run {
     device: Device,
+    // Whether the last frame is explained, and not each line answered; and the request that then waits.
+    explains: bool,
+    last: Last,
     // How many lines were read, blank ones too.
     lines: u64,
     held: Held,
@@ -31,54 +39,58 @@ fn next(n: u64) -> u64 {
 
 fn flush(r: Run, out: &[u8]) -> Run {
     let used = r.used;
-    let device = r.device;
-    let held = r.held;
+    let mut e = r;
+    e.used = 0;
     if used <= out.len() {
-        let written = io::write_all(STDOUT_FILENO, &out[..used]);
-        Run {
-            device,
-            lines: r.lines,
-            held,
-            used: 0,
-            over: !written,
-        }
+        e.over = !io::write_all(STDOUT_FILENO, &out[..used]);
     } else {
-        Run {
-            device,
-            lines: r.lines,
-            held,
-            used: 0,
-            over: true,
-        }
+        e.over = true;
+    }
+    e
+}
+
+// What a line leaves of the run.
+fn left(r: Run, device: Device, last: Last, used: usize) -> Run {
+    let held = r.held;
+    Run {
+        device,
+        explains: r.explains,
+        last,
+        lines: r.lines,
+        held,
+        used,
+        over: r.over,
     }
 }
 
-// The answer to the line that is held, which is complete.
-fn close(r: Run, line: &[u8], out: &mut [u8]) -> Run {
+fn answered(r: Run, l: Line, out: &mut [u8]) -> Run {
     let device = r.device;
-    let held = r.held;
-    let length = held.length;
-    let number = next(r.lines);
-    if length <= line.len() {
-        let turn = answers::answer(device, &line[..length], number, out, r.used);
-        let device = turn.device;
-        Run {
-            device,
-            lines: number,
-            held: lines::nothing(),
-            used: turn.used,
-            over: false,
-        }
+    let last = r.last;
+    let explains = r.explains;
+    if explains {
+        let then = explain::more(device, last, l, r.lines, out, r.used);
+        left(r, then.device, then.last, then.used)
     } else {
-        let used = answers::too_long(out, r.used, number);
-        Run {
-            device,
-            lines: number,
-            held: lines::nothing(),
-            used,
-            over: false,
-        }
+        let turn = answers::answer(device, l, r.lines, out, r.used);
+        left(r, turn.device, last, turn.used)
     }
+}
+
+fn read(line: &[u8], length: usize) -> Line {
+    if length <= line.len() {
+        line::read_line(&line[..length])
+    } else {
+        answers::long_line()
+    }
+}
+
+// The line that is held is complete.
+fn close(r: Run, line: &[u8], out: &mut [u8]) -> Run {
+    let l = read(line, r.held.length);
+    let mut e = r;
+    e.lines = next(r.lines);
+    e.held = lines::nothing();
+    answered(e, l, out)
 }
 
 // A complete line is answered, and the answers are written where little is left for more.
@@ -93,14 +105,9 @@ fn after(r: Run, ended: bool, line: &[u8], out: &mut [u8]) -> Run {
 }
 
 fn with_held(r: Run, held: Held) -> Run {
-    let device = r.device;
-    Run {
-        device,
-        lines: r.lines,
-        held,
-        used: r.used,
-        over: r.over,
-    }
+    let mut e = r;
+    e.held = held;
+    e
 }
 
 // Every line that ends in the chunk.
@@ -121,18 +128,21 @@ fn feed(r: Run, chunk: &[u8], line: &mut [u8], out: &mut [u8]) -> Run {
     e
 }
 
+fn ended(r: Run, out: &mut [u8]) -> Run {
+    let mut e = r;
+    if r.explains {
+        let device = r.device;
+        e.used = explain::end(device, r.last, r.lines, out, r.used);
+    }
+    e
+}
+
 // A last line may lack its newline.
 fn finish(r: Run, line: &[u8], out: &mut [u8]) -> Run {
-    let e = flush(close(r, line, out), out);
-    let device = e.device;
-    let held = e.held;
-    Run {
-        device,
-        lines: e.lines,
-        held,
-        used: 0,
-        over: true,
-    }
+    let last = closed(r, line, out);
+    let mut e = flush(ended(last, out), out);
+    e.over = true;
+    e
 }
 
 // Reads once, and answers what came.
@@ -171,6 +181,8 @@ fn main() {
     let mut out = io::large_buffer();
     let r = Run {
         device: chip::fresh(),
+        explains: os::arg_count() > 1,
+        last: explain::nothing(),
         lines: 0,
         held: lines::nothing(),
         used: 0,

@@ -1,3 +1,4 @@
 pub mod Agree
 pub mod Bytes
 pub mod Sets
+pub mod First

@@ -1,8 +1,15 @@
 // The acceptance filters: eight filters and eight masks of six bytes each, against the six bytes that a frame is
 // compared by. It knows nothing of frames or of the device.
 ghost use mathlib.Core.Path.{_≡_};
-ghost use Rattle.filter.specs.Match.{agree, bitFromTop, countedByte, matches};
+ghost use Rattle.filter.specs.Match.{agree, bitFromTop, bitAtPlace, countedOf, countedByte, matches};
 ghost use Rattle.filter.specs.Hits.{hits, filhit, howMany};
+ghost use Rattle.filter.specs.First.{differsAt, firstDifference};
+
+// The bits of six bytes, numbered from bit 7 of the first to bit 0 of the sixth.
+pub const PLACES: usize = 48;
+
+// Bit 0 of byte 4, which Table 4b doesn't name.
+const UNCOUNTED: usize = 31;
 
 // No bit differs that the mask has.
 fn byte_agrees(frame: u8, filter: u8, mask: u8) -> bool
@@ -59,4 +66,42 @@ pub fn how_many(hits: u8) -> u8
     ensures { λ r. ⌜ r ≡ howMany hits ⌝ }
 {
     u8::count_ones(hits) as u8
+}
+
+// The bit at a place.
+pub fn bit_at(bytes: [u8; 6], place: usize) -> u8
+    ensures { λ r. ⌜ r ≡ bitAtPlace bytes place ⌝ }
+{
+    (base::at(&bytes, place / 8) >> (7 - place % 8)) % 2
+}
+
+// A mask's bit at a place, without the bit that doesn't count.
+fn counted_at(mask: [u8; 6], place: usize) -> u8
+    ensures { λ r. ⌜ r ≡ countedOf mask place ⌝ }
+{
+    if place == UNCOUNTED {
+        0
+    } else {
+        bit_at(mask, place)
+    }
+}
+
+fn differs_at(vector: [u8; 6], filter: [u8; 6], mask: [u8; 6], place: usize) -> bool
+    ensures { λ r. ⌜ r ≡ differsAt (bitAtPlace vector) (bitAtPlace filter) (countedOf mask) place ⌝ }
+{
+    (counted_at(mask, place) != 0) & (bit_at(vector, place) != bit_at(filter, place))
+}
+
+// The first place that counts and differs; in a filter that matches there is none, and it is PLACES.
+pub fn first_difference(vector: [u8; 6], filter: [u8; 6], mask: [u8; 6]) -> usize
+    ensures { λ r. ⌜ r ≡ firstDifference vector filter mask ⌝ }
+{
+    let mut place: usize = 0;
+    while place < PLACES {
+        if differs_at(vector, filter, mask, place) {
+            return place;
+        }
+        place += 1;
+    }
+    place
 }

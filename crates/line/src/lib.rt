@@ -29,6 +29,8 @@ pub enum Expected {
     Count,
     ZeroOrOne,
     EndOfLine,
+    // A line that is longer than its reader takes; `read_line` takes any.
+    Shorter,
 }
 
 pub enum Asked {

@@ -1,5 +1,5 @@
--- One result for each public function of receive, refused, shown, done, host, judged, changed and bus. `Frames` says
--- how to read a line.
+-- One result for each public function of receive, refused, shown, done, host, judged, changed, bus and why. `Frames`
+-- says how to read a line.
 use mathlib.Core.Path.{refl}
 use lib.ListN.{length}
 use base.Stored.{codedList, codedℕ}
@@ -14,6 +14,8 @@ use Rattle.changed.specs.Changed
 use Rattle.bus.specs.Event
 use Rattle.bus.specs.Hits
 use Rattle.bus.specs.Pins
+use Rattle.why.specs.Why
+use Rattle.why.specs.Fields
 use Rattle.receive.proofs as receive
 use Rattle.refused.proofs as refused
 use Rattle.shown.proofs as shown
@@ -22,6 +24,7 @@ use Rattle.host.proofs as host
 use Rattle.judged.proofs as judged
 use Rattle.changed.proofs as changed
 use Rattle.bus.proofs as bus
+use Rattle.why.proofs as why
 use Rattle.one.specs.Law.{OneResult}
 use Rattle.one.specs.Shapes.{result, result-and-content}
 
@@ -96,3 +99,10 @@ module _ (M : Type 1) where
 
   pub bus·pins : OneResult M bus.pins.ended bus.pins.spec
   bus·pins = result bus.pins.clauses (λ _. Pins.pins) refl
+
+  -- ---- why
+  pub why·explained : OneResult M why.explained.ended why.explained.spec
+  why·explained = result why.explained.clauses (λ _. Why.explained) refl
+
+  pub why·field-at : OneResult M why.field_at.ended why.field_at.spec
+  why·field-at = result why.field_at.clauses (λ _. Fields.fieldAt) refl

@@ -16,6 +16,7 @@ use Rattle.frame.specs.Received
 use Rattle.to_send.specs.ToSend
 use Rattle.filter.specs.Match
 use Rattle.filter.specs.Hits
+use Rattle.filter.specs.First
 use Rattle.base.proofs as base
 use Rattle.commands.proofs as commands
 use Rattle.frame.proofs as frame
@@ -97,3 +98,9 @@ module _ (M : Type 1) where
 
   pub filter·how-many : OneResult M filter.how_many.ended filter.how_many.spec
   filter·how-many = result filter.how_many.clauses (λ _. Hits.howMany) refl
+
+  pub filter·bit-at : OneResult M filter.bit_at.ended filter.bit_at.spec
+  filter·bit-at = result filter.bit_at.clauses (λ _. Match.bitAtPlace) refl
+
+  pub filter·first-difference : OneResult M filter.first_difference.ended filter.first_difference.spec
+  filter·first-difference = result filter.first_difference.clauses (λ _. First.firstDifference) refl

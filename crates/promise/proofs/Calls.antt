@@ -11,11 +11,13 @@ use Rattle.host.specs.Transfer
 use Rattle.bus.proofs as bus
 use Rattle.chip.proofs as chip
 use Rattle.host.proofs as host
+use Rattle.why.specs.Why
+use Rattle.why.proofs as why
 use Rattle.one.specs.Law.{read-off}
 use Rattle.one.specs.Shapes.{result-is, result-and-content-are}
 use Rattle.promise.specs.Promises.{TheMachineIsTheCode}
 use Rattle.promise.specs.Sequence.{Given, replied, answered, Step, shipped}
-use Rattle.promise.specs.Calls.{Transfers, Events, Asked, Looks, Tells, Begins}
+use Rattle.promise.specs.Calls.{Transfers, Events, Asked, Looks, Tells, Explains, Begins}
 use Rattle.promise.proofs.Answered.{told-out}
 
 module _ (M : Type 1) where
@@ -44,8 +46,11 @@ module _ (M : Type 1) where
   tells : Tells M Hits.hits
   tells = result-is bus.hits.clauses (λ _. Hits.hits) refl
 
+  explains : Explains M Why.explained
+  explains = result-is why.explained.clauses (λ _. Why.explained) refl
+
   begins : Begins M fresh
   begins = result-is chip.fresh.clauses (λ _. fresh) refl
 
 pub is-the-code : TheMachineIsTheCode
-is-the-code M = (transfers M, events M, asked M, looks M, tells M, begins M)
+is-the-code M = (transfers M, events M, asked M, looks M, tells M, explains M, begins M)

@@ -1,7 +1,7 @@
--- Each wrong device of `specs/Wrong` and `WrongRegisters`, and each wrong way to ask of `WrongQuestions`, by the
--- promise that it breaks, and on what. Assumes nothing.
+-- Each wrong device of `specs/Wrong` and `WrongRegisters`, and each wrong way to ask and to explain of `WrongQuestions`
+-- and `WrongExplanations`, by the promise that it breaks, and on what. Assumes nothing.
 use mathlib.Core.Path.{refl}
-use mathlib.Core.Bool.{true, false}
+use mathlib.Core.Bool.{Bool, true, false}
 use mathlib.Core.List.{List, [], _∷_, _++_, map}
 use Prim.Native.Nat.{ℕ}
 use lib.ListN.{replicate}
@@ -17,6 +17,7 @@ use Rattle.bus.specs.declared.types.Pins.{Pins}
 use Rattle.promise.specs.Sequence.{Input, spi, wire, Machine, shipped, run}
 use Rattle.promise.specs.Held.{Holds}
 use Rattle.promise.specs.Questions.{Question}
+use Rattle.promise.specs.Explanations.{Explainer}
 use Rattle.promise.specs.Ranges.{deviceInRange}
 use Rattle.promise.specs.Records.{Records, start, with-counters as with-counted}
 use Rattle.promise.specs.Settings.{modeNamed}
@@ -26,6 +27,7 @@ use Rattle.promise.specs.WrongRegisters.{commandsExchanged, filterElsewh
 use Rattle.promise.specs.WrongRegisters.{errsExchanged, errCleared, intfKept, intByStatfe, showsAnother, hitAtRead, repliesZeros, blind, groupsAlways}
 use Rattle.promise.specs.WrongRegisters.{highestShown, bothRaised}
 use Rattle.promise.specs.WrongQuestions.{whileOn, reversed, withoutSeven, anyDevice, anyFrame}
+use Rattle.promise.specs.WrongExplanations.{roomFirstReason, laterBit, fromZeroUp, maskIgnored, unnamedCounts, saysNothing, blamesAlways}
 use Rattle.promise.specs.WrongRegisters.{clearsFirst, refusesAll, changesNothing, madeUpRec, madeUpTec, madeUpGroups}
 use Rattle.promise.proofs.After.{fresh-holds}
 
@@ -51,6 +53,9 @@ pub data Case : Type 0 where
   -- a way to ask which filters match, of a frame: after a sequence, and in a device
   mistold : Question → List Input → Header → ℕ → List ℕ → Case
   misasked : Question → Device → Header → ℕ → List ℕ → Case
+  -- a way to explain, of a frame in a device: its reason, and what it says of filter 0, with a bit that may come before
+  misled : Explainer → Device → Header → Bool → ℕ → List ℕ → Case
+  mispointed : Explainer → Device → Header → Bool → ℕ → List ℕ → ℕ × ℕ → Case
   -- in a device that holds what these records have
   astray : (w : Machine) (d : Device) (r : Records) → Holds d r → Input → Case
 
@@ -101,6 +106,16 @@ filtersOn = spi (0x16 ∷ 0x10 ∷ []) []
 
 abbrev pub noneMatches : List Input
 noneMatches = map maskAll (0x74 ∷ 0x76 ∷ 0x78 ∷ 0x7A ∷ 0x7C ∷ 0x7E ∷ 0x82 ∷ 0x84 ∷ []) ++ toNormal ∷ []
+
+-- none matches, by every bit but those of byte 1
+abbrev pub byOtherBytes : List Input
+byOtherBytes =
+    map (λ c. spi (c ∷ 0x00 ∷ replicate 5 0xFF) []) (0x74 ∷ 0x76 ∷ 0x78 ∷ 0x7A ∷ 0x7C ∷ 0x7E ∷ 0x82 ∷ 0x84 ∷ []) ++
+    toNormal ∷ filtersOn ∷ []
+
+-- filter 0 has the scan's identifier, and a 1 where none counts
+abbrev pub unnamedSet : List Input
+unnamedSet = spi (0x62 ∷ 0x24 ∷ 0x60 ∷ 0x00 ∷ 0x01 ∷ 0x00 ∷ 0x00 ∷ []) [] ∷ noneMatches ++ filtersOn ∷ []
 
 -- eight scans, then filters on
 abbrev pub strangers : List Input
@@ -215,5 +230,12 @@ cases =
     mistold anyFrame [] scanHeader 2 (1 ∷ replicate 7 0) ∷
     misasked anyFrame fresh scanHeader 2 (1 ∷ replicate 7 0) ∷
     misasked anyDevice farDevice scanHeader 1 (1 ∷ replicate 7 0) ∷
+    misled roomFirstReason (run shipped fresh strangers) scanHeader true 1 (9 ∷ replicate 7 0) ∷
+    mispointed laterBit (run shipped fresh (noneMatches ++ filtersOn ∷ [])) scanHeader true 1 (1 ∷ replicate 7 0) (1, 5) ∷
+    mispointed fromZeroUp (run shipped fresh (noneMatches ++ filtersOn ∷ [])) scanHeader true 1 (1 ∷ replicate 7 0) (1, 5) ∷
+    mispointed maskIgnored (run shipped fresh byOtherBytes) scanHeader true 1 (1 ∷ replicate 7 0) (1, 7) ∷
+    mispointed unnamedCounts (run shipped fresh unnamedSet) scanHeader true 1 (1 ∷ replicate 7 0) (1, 7) ∷
+    mispointed saysNothing (run shipped fresh (noneMatches ++ filtersOn ∷ [])) scanHeader true 1 (1 ∷ replicate 7 0) (1, 7) ∷
+    mispointed blamesAlways (run shipped fresh noneMatches) scanHeader true 1 (1 ∷ replicate 7 0) (1, 7) ∷
     astray groupsAlways oddDevice oddRecords odd-holds (ask 0xF8) ∷
     []

@@ -25,6 +25,8 @@ pub mod Arrivals
 pub mod EventsKept
 pub mod Replies
 pub mod Questions
+pub mod Places
+pub mod Explanations
 pub mod After
 pub mod Worked
 pub mod Cases

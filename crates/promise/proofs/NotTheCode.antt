@@ -20,6 +20,7 @@ use Rattle.bus.specs.Event
 use Rattle.bus.specs.Hits.{hits}
 use Rattle.bus.specs.Pins.{pins}
 use Rattle.bus.proofs as bus
+use Rattle.why.specs.Why.{explained}
 use Rattle.one.specs.Law.{Inputs, Model, stated, Satisfies, has-part}
 use Rattle.promise.specs.Sequence.{Input, wire, Step, shipped, values}
 use Rattle.promise.specs.Calls.{IsTheCode}
@@ -69,7 +70,7 @@ unfolding State.fresh Proper.proper Proper.registersInRange Proper.sendingInRang
     Judged.impossible Judged.said Judged.nothing Judged.brings Event.answered Event.answer Event.event Event.valuesOf Event.reasonOf
 differ = (refl, refl)
 
-pub not-the-code : IsTheCode boasts pins hits fresh → ⊥
+pub not-the-code : IsTheCode boasts pins hits explained fresh → ⊥
 not-the-code code =
     ∥∥₁-elim (has-part (code M .1) arguments given satisfies) (λ x y. absurd x)
     (λ p. suc-ne-zero 0 (sym (differ .1) ∙ sym (ap told (p .1)) ∙ differ .0))

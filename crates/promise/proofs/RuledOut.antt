@@ -1,16 +1,25 @@
 -- No wrong device keeps its promise. Assumes nothing.
 use mathlib.Core.Path.{_≡_, refl, sym, _∙_, ap}
-use mathlib.Core.Bool.{Bool, true, false, not, false≢true}
+use mathlib.Core.Bool.{Bool, true, false, not, _&&_, _||_, false≢true}
 use mathlib.Core.List.{List, [], _∷_, _++_, map}
 use Prim.Native.Nat.{ℕ}
-use borrow.Author.Tests.{eqb-false}
+use native.Mathlib.Omega.{arith}
+use borrow.Author.Tests.{eq-eqb, ne-eqb, eqb-false}
 use lib.Dec.{eqb}
 use lib.ListN.{length, replicate, getD}
 use Rattle.fifo.specs.declared.Message.{Message}
 use Rattle.frame.specs.Received.{received}
 use Rattle.frame.specs.Tables.{idBits, idAsRead}
-use Rattle.base.specs.Bit.{byte}
+use Rattle.base.specs.Bit.{bit, byte}
 use Rattle.base.specs.Pick.{pick, flag}
+use Rattle.base.proofs.Booleans.{and-left, and-right}
+use Rattle.frame.specs.declared.Header.{Header}
+use Rattle.receive.specs.declared.Arrival.the-variants.{A4}
+use Rattle.judged.specs.declared.Answer.the-variants.{Arrived}
+use Rattle.events.specs.declared.Event.the-variants.{GoodFrame}
+use Rattle.why.specs.declared.Place.{Place}
+use Rattle.why.specs.declared.Why.{Why}
+use Rattle.why.specs.Why.{noFilter}
 use Rattle.bus.specs.Hits.{hits}
 use Rattle.bus.specs.Pins.{pins}
 use Rattle.chip.specs.declared.Device.{Device}
@@ -23,12 +32,16 @@ use Rattle.promise.specs.Due.{Due}
 use Rattle.promise.specs.Held.{Each, Runs, Settled, Counted, Timed, Seen, Raised, Pinned, Whole, AsArrived, AsWritten}
 use Rattle.promise.specs.After.{recorded, After, Answers, Same, Onward}
 use Rattle.promise.specs.Questions.{InEveryDevice, Told}
+use Rattle.promise.specs.Explanations.{TheDevices, countsAt, before, IsFirst, noPlace, EachHasOne, Pointed}
+use Rattle.promise.specs.Filters.{compared}
+use Rattle.promise.specs.Settings.{patterns}
 use Rattle.promise.specs.Records.{Records}
 use Rattle.promise.specs.Own.{ownMessage}
 use Rattle.promise.proofs.Cases.{Case, lost, undue, unsettled, miscounted, mistimed, unseen, unraised, unwritten, unlike, misshown, unlikeItself}
-use Rattle.promise.proofs.Cases.{misjudged, misanswered, changing, mistold, misasked, astray, cases}
+use Rattle.promise.proofs.Cases.{misjudged, misanswered, changing, mistold, misasked, misled, mispointed, astray, cases}
+use Rattle.promise.proofs.Explanations.{is-a4, a4-is}
 use Rattle.promise.proofs.Queues.{Shown}
-use Rattle.promise.proofs.Sides.{alike, alike-self, shownHits, allBytes, counts, settingBytes, levels, numbers, numbersDue, refusal, buffered, runningBytes, sides, differ}
+use Rattle.promise.proofs.Sides.{alike, alike-self, shownHits, allBytes, counts, settingBytes, levels, numbers, numbersDue, refusal, buffered, runningBytes, pointedAt, sides, differ}
 
 -- the promise that a case breaks
 abbrev pub Promise : Case → Type 0
@@ -48,6 +61,8 @@ Promise (misanswered w d i) = Answered w
 Promise (changing w d i) = Refused w
 Promise (mistold ask is h count payload) = After shipped (Told ask)
 Promise (misasked ask d h count payload) = InEveryDevice ask
+Promise (misled explain d h acknowledged count payload) = TheDevices shipped explain
+Promise (mispointed explain d h acknowledged count payload at) = Pointed explain
 Promise (astray w d r h i) = Onward w pins hits
 
 -- ---- each promise makes its two sides equal
@@ -84,6 +99,30 @@ left-count : (t : Bool) (d : Device) (i : Input) (s : Step) → eqb (number (s .
 left-count true d i s is kept = refl
 left-count false d i s is kept = untouched-count d i s (kept (eqb-false (number (s .given)) 0 is))
 
+-- a place that is the first
+implied : (e : Bool) (x y : ℕ) → (e ≡ true → x ≡ y) → (not e || eqb x y) ≡ true
+implied true x y alike = eq-eqb x y (alike refl)
+implied false x y alike = refl
+
+first-sides : (frame filter mask : List ℕ) (at : ℕ × ℕ) (p : Place) → IsFirst frame filter mask p → pointedAt frame filter mask at p ≡ 1 ∷ 0 ∷ 1 ∷ []
+first-sides frame filter mask at p f =
+    rw (
+      f .counts,
+      ne-eqb (p .wanted) (p .came) (f .differ),
+      implied (before (at .0) (at .1) p && countsAt mask (at .0) (at .1)) (bit (at .1) (byte frame (at .0))) (bit (at .1) (byte filter (at .0)))
+          (λ e. f .first (at .0) (at .1) (and-left (before (at .0) (at .1) p) (countsAt mask (at .0) (at .1)) e) (and-right (before (at .0) (at .1) p) (countsAt mask (at .0) (at .1)) e)),
+    )
+
+module _ (d : Device) (h : Header) (payload : List ℕ) (at : ℕ × ℕ) (w : Why) where
+  abbrev pointed : List ℕ
+  pointed = pointedAt (compared h payload) (getD (patterns (d .filters)) 0 []) (getD (patterns (d .masks)) 0 []) at (getD (w .places) 0 noPlace)
+
+  by-a4 : (t : Bool) → noFilter (w .answer) ≡ t
+      → (w .answer ≡ Arrived A4 → EachHasOne d h payload (w .places)) × ((w .answer ≡ Arrived A4 → ⊥) → w .places ≡ replicate 8 noPlace)
+      → pick t pointed (map (λ (p : Place). p .byte) (w .places)) ≡ pick t (1 ∷ 0 ∷ 1 ∷ []) (replicate 8 0)
+  by-a4 true e holds = first-sides _ _ _ at _ (holds .0 (is-a4 (w .answer) e) .1 0 (omega arith))
+  by-a4 false e holds = ap (map (λ (p : Place). p .byte)) (holds .1 (λ a4. false≢true (sym e ∙ a4-is (w .answer) a4)))
+
 equal : (c : Case) → Promise c → sides c .0 ≡ sides c .1
 equal (lost w is) holds = ap allBytes (holds is)
 equal (undue w is i) holds = given-due (recorded w is) i (w (run w fresh is) i .given) (holds is i)
@@ -104,6 +143,11 @@ equal (misanswered w d i) holds = ap (λ n. n ∷ []) (fits-refusal i (w d i .gi
 equal (changing w d i) holds = ap (λ n. n ∷ []) (left-count (eqb (numberGiven w d i) 0) d i (w d i) refl (holds d i))
 equal (mistold ask is h count payload) holds = ap shownHits (holds is h count payload)
 equal (misasked ask d h count payload) holds = ap shownHits (holds d h count payload)
+equal (misled explain d h acknowledged count payload) holds =
+    ap (numbers (wire (GoodFrame h acknowledged count) payload)) (holds d h acknowledged count payload)
+equal (mispointed explain d h acknowledged count payload at) holds =
+    let w = explain d h acknowledged count payload in
+    by-a4 d h payload at w (noFilter (w .answer)) refl (holds d h acknowledged count payload)
 equal (astray w d r h i) holds = given-due r i (w d i .given) (holds d r h .1 i)
 
 -- ---- and in no case are they

@@ -1,12 +1,12 @@
 -- The two sides of the promise that each wrong device breaks, in numbers, computed in one table. Assumes nothing.
 use mathlib.Core.Path.{_≡_, refl}
-use mathlib.Core.Bool.{Bool, true, false, not, _&&_}
+use mathlib.Core.Bool.{Bool, true, false, not, _&&_, _||_}
 use mathlib.Core.List.{List, [], _∷_, _++_, map}
 use Prim.Native.Nat.{ℕ, _%_}
 use borrow.Author.Tests.{eq-eqb}
 use lib.Dec.{eqb}
 use lib.ListN.{length, replicate, getD}
-use Rattle.base.specs.Bit.{byte}
+use Rattle.base.specs.Bit.{bit, byte}
 use Rattle.base.specs.Pick.{pick, flag}
 use Rattle.counters.specs.declared.Counters.{Counters}
 use Rattle.counters.specs.Rules
@@ -18,6 +18,7 @@ use Rattle.frame.specs.Received
 use Rattle.frame.specs.Tables
 use Rattle.filter.specs.Hits as FilterHits
 use Rattle.filter.specs.Match
+use Rattle.filter.specs.First
 use Rattle.levels.specs.Levels
 use Rattle.to_send.specs.ToSend
 use Rattle.chip.specs.State.{fresh}
@@ -35,6 +36,10 @@ use Rattle.bus.specs.declared.types.Pins.{Pins}
 use Rattle.bus.specs.Event
 use Rattle.bus.specs.Hits as BusHits
 use Rattle.bus.specs.Pins
+use Rattle.why.specs.declared.Place.{Place}
+use Rattle.why.specs.declared.Why.{Why as Explained}
+use Rattle.why.specs.Why
+use Rattle.events.specs.declared.Event.the-variants.{GoodFrame}
 use Rattle.commands.specs.Table
 use Rattle.refused.specs.Refused
 use Rattle.shown.specs.Shown
@@ -60,12 +65,13 @@ use Rattle.promise.specs.Records.{Records}
 use Rattle.promise.specs.Registers
 use Rattle.promise.specs.Registers.{shown, pinsShown}
 use Rattle.promise.specs.Settings
-use Rattle.promise.specs.Settings.{Settings, settingsOf}
+use Rattle.promise.specs.Settings.{Settings, settingsOf, patterns}
 use Rattle.bus.specs.declared.types.Hits.{Hits as HitsGiven}
 use Rattle.promise.specs.Arrivals.{matching}
 use Rattle.promise.specs.Questions.{refused, unlessImpossible}
 use Rattle.promise.proofs.Cases.{Case, lost, undue, unsettled, miscounted, mistimed, unseen, unraised, unwritten, unlike, misshown, unlikeItself}
-use Rattle.promise.proofs.Cases.{misjudged, misanswered, changing, mistold, misasked, astray, cases}
+use Rattle.promise.specs.Explanations.{countsAt, before, noPlace}
+use Rattle.promise.proofs.Cases.{misjudged, misanswered, changing, mistold, misasked, misled, mispointed, astray, cases}
 
 -- ---- lists of numbers that differ
 
@@ -136,6 +142,15 @@ runningBytes (alone m) = ownMessage m .bytes
 abbrev pub shownHits : HitsGiven → List ℕ
 shownHits given = given .number ∷ given .set ∷ []
 
+-- of a place: whether it counts, whether filter and frame are alike there, and whether they are at another bit, if that
+-- counts and comes before it
+abbrev pub pointedAt : List ℕ → List ℕ → List ℕ → ℕ × ℕ → Place → List ℕ
+pointedAt frame filter mask at p =
+    flag (countsAt mask (p .byte) (p .bit)) ∷
+    flag (eqb (p .wanted) (p .came)) ∷
+    flag (not (before (at .0) (at .1) p && countsAt mask (at .0) (at .1)) || eqb (bit (at .1) (byte frame (at .0))) (bit (at .1) (byte filter (at .0)))) ∷
+    []
+
 -- what the device comes to, and what its promise says
 abbrev pub sides : Case → List ℕ × List ℕ
 sides (lost w is) = (
@@ -172,6 +187,16 @@ sides (misasked ask d h count payload) = (
   shownHits (ask d h count payload),
   shownHits (pick (Ranges.deviceInRange d) (unlessImpossible h count (ask d h count payload .set)) (refused 1)),
 )
+sides (misled explain d h acknowledged count payload) =
+    let i : Input = wire (GoodFrame h acknowledged count) payload in
+    (numbers i (answered (explain d h acknowledged count payload .answer)), numbers i (shipped d i .given))
+sides (mispointed explain d h acknowledged count payload at) =
+    let w : Explained = explain d h acknowledged count payload in (
+      pick (Why.noFilter (w .answer))
+          (pointedAt (Filters.compared h payload) (getD (patterns (d .filters)) 0 []) (getD (patterns (d .masks)) 0 []) at (getD (w .places) 0 noPlace))
+          (map (λ p. p .byte) (w .places)),
+      pick (Why.noFilter (w .answer)) (1 ∷ 0 ∷ 1 ∷ []) (replicate 8 0),
+    )
 sides (astray w d r holds i) = (numbers i (w d i .given), numbersDue r i)
 
 pub differ : map (λ c. alike (sides c .0) (sides c .1)) cases ≡ replicate (length cases) false
@@ -187,7 +212,7 @@ unfolding Transfer.transfer Transfer.replyAfter Refused.lengthFits Refused.setsU
     Judged.impossibleFrame Judged.impossible Judged.takesNoFrames Judged.unacknowledged Judged.reason Judged.said Judged.busFrame Judged.nothing Judged.brings Changed.errBit
     Changed.countedFrame Changed.heard Changed.taken Changed.reachesTemporary Changed.countedReceiveError Changed.receiveErrorMet Changed.dominantMet
     Changed.countedTransmitError Changed.transmitErrorMet Changed.recessiveMet Changed.ticked Changed.pinSet Changed.arrival Changed.after
-    Event.numberOf Event.reasonOf Event.valuesOf Event.answered Event.answer Event.event BusHits.hits Rules.receiveError Rules.dominantBit Rules.goodFrame Rules.transmitError
+    Event.numberOf Event.reasonOf Event.valuesOf Event.answered Event.answer Event.event BusHits.hits Why.firstPlace Why.places Why.isA4 Why.noFilter Why.explained First.firstDifference Rules.receiveError Rules.dominantBit Rules.goodFrame Rules.transmitError
     Rules.completed Rules.elevenRecessive Rules.testRec Rules.testTec Transmit.sends Transmit.canBegin Transmit.withoutTx1m Transmit.ctrl1Begun
     Transmit.begun Transmit.stopped Transmit.aborted Transmit.leftAlone Transmit.cleared Transmit.stamped Transmit.fifoAfter
     Transmit.countedCompletion Transmit.transmitted Shown.cut Shown.register Shown.shows

@@ -10,9 +10,12 @@ use Rattle.bus.specs.declared.types.Pins.{Pins}
 use Rattle.bus.proofs as bus
 use Rattle.chip.proofs as chip
 use Rattle.host.proofs as host
+use Rattle.why.specs.declared.Why.{Why}
+use Rattle.why.proofs as why
 use Rattle.one.specs.Law.{Inputs, Outcome, Equates}
 use Rattle.one.specs.Shapes.{at}
 use Rattle.promise.specs.Questions.{Question}
+use Rattle.promise.specs.Explanations.{Explainer}
 use Rattle.promise.specs.Sequence.{spi, wire, Given, replied, answered, Step, Machine}
 
 module _ (M : Type 1) (step : Machine) where
@@ -49,12 +52,19 @@ module _ (M : Type 1) where
       Equates M bus.hits.ended bus.hits.spec (λ a. Hits) (λ a x. x .0)
       (at bus.hits.ended Hits (λ lifetimes d h given payload. ask d h given payload))
 
+  -- `why::explained(d, h, acknowledged, given, payload)`
+  abbrev pub Explains : Explainer → Type 2
+  Explains explain =
+      Equates M why.explained.ended why.explained.spec (λ a. Why) (λ a x. x .0)
+      (at why.explained.ended Why (λ lifetimes d h acknowledged given payload. explain d h acknowledged given payload))
+
   -- `chip::fresh()`
   abbrev pub Begins : Device → Type 2
   Begins first =
       Equates M chip.fresh.ended chip.fresh.spec (λ a. Device) (λ a x. x .0)
       (at chip.fresh.ended Device (λ lifetimes. first))
 
-abbrev pub IsTheCode : Machine → (Device → Pins) → Question → Device → Type 2
-IsTheCode step look ask first =
-    (M : Type 1) → Transfers M step × Events M step × Asked M step × Looks M look × Tells M ask × Begins M first
+abbrev pub IsTheCode : Machine → (Device → Pins) → Question → Explainer → Device → Type 2
+IsTheCode step look ask explain first =
+    (M : Type 1)
+    → Transfers M step × Events M step × Asked M step × Looks M look × Tells M ask × Explains M explain × Begins M first

@@ -20,9 +20,11 @@ pub mod Numbers
 pub mod Due
 pub mod Held
 pub mod Questions
+pub mod Explanations
 pub mod After
 pub mod Worked
 pub mod Wrong
 pub mod WrongRegisters
 pub mod WrongQuestions
+pub mod WrongExplanations
 pub mod Promises

@@ -3,18 +3,20 @@
 use Rattle.bus.specs.Hits.{hits}
 use Rattle.bus.specs.Pins.{pins}
 use Rattle.chip.specs.State.{fresh}
+use Rattle.why.specs.Why.{explained}
 use Rattle.promise.specs.Sequence.{shipped}
 use Rattle.promise.specs.Calls.{IsTheCode}
 use Rattle.promise.specs.Numbers.{Answered, First, Exactly, Refused, NeverOne}
 use Rattle.promise.specs.Held.{Settled, Counted, Timed, Seen, Raised, Pinned, Whole, AsArrived, AsWritten}
 use Rattle.promise.specs.Questions.{InEveryDevice, Told}
+use Rattle.promise.specs.Explanations.{TheDevices, Pointed}
 use Rattle.promise.specs.After.{After, Answers, Same, Onward}
 use Rattle.promise.specs.Worked.{Worked}
 
 -- ---- what they speak of (Calls)
 
 abbrev pub TheMachineIsTheCode : Type 2
-TheMachineIsTheCode = IsTheCode shipped pins hits fresh
+TheMachineIsTheCode = IsTheCode shipped pins hits explained fresh
 
 -- ---- demand 1 (Numbers)
 
@@ -40,6 +42,14 @@ EveryQuestionIsAnswered = InEveryDevice hits
 
 abbrev pub TheFiltersAreToldAsWritten : Type 0
 TheFiltersAreToldAsWritten = After shipped (Told hits)
+
+-- ---- and of why a frame would not arrive (Explanations)
+
+abbrev pub TheReasonIsTheDevices : Type 0
+TheReasonIsTheDevices = TheDevices shipped explained
+
+abbrev pub EachPlaceIsTheFirst : Type 0
+EachPlaceIsTheFirst = Pointed explained
 
 -- ---- demands 2 and 3, over every sequence (Due, Held, After)
 

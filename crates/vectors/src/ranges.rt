@@ -1,27 +1,37 @@
 // Number 1: of each range that `chip::proper` asks for, a device just outside it and its neighbour at the bound, at
-// both doors.
+// both doors and asked why.
 use crate::say::say;
 use crate::say::say_answer;
 use crate::say::say_number;
 use chip::Device;
 use events::Event;
 use fifo::Fifo;
+use frame::Header;
 
-// What a read of CTRL0 and an event of no ticks are given.
-fn at_both_doors(d: Device) {
+// What a read of CTRL0, an event of no ticks and the question why a frame would not arrive are given.
+fn asked(d: Device) {
     let mut reply = [0u8; 1];
     let o = host::transfer(d, &[0xD2], &mut reply);
     say_number(o.number);
     let p = bus::event(d, Event::Ticks(0), [0; 8]);
     let a = p.answer;
     say_answer(a);
+    let header = Header {
+        id: 0x123,
+        extended: false,
+        remote: false,
+        code: 0,
+    };
+    let w = why::explained(d, header, true, 0, [0; 8]);
+    let a = w.answer;
+    say_answer(a);
 }
 
 fn on_both_sides(range: &[u8], outside: Device, at_the_bound: Device) {
     say(range);
-    at_both_doors(outside);
+    asked(outside);
     say(b",");
-    at_both_doors(at_the_bound);
+    asked(at_the_bound);
     say(b"\n");
 }
 
