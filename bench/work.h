@@ -11,7 +11,9 @@
  * The rest have no particulars. Any other kind is an unknown event.
  *
  * From a fresh device the list is run `rounds` times. Each record has 17 bytes of results, zero at the start: its
- * number, or for a frame taken or refused 16 Queued and 17 to 21 for A1 to A5; then the lent reply buffer.
+ * number, or for a frame taken or refused 16 Queued, 17 to 20 for A1 to A4 and 22 Queued-over-latest; then, of a
+ * transfer, the lent reply buffer, and of an event the identifier that was lost, little-endian, with its highest bit
+ * set for an extended one, or 0.
  * All results go to standard output after the last round. */
 #ifndef WORK_H
 #define WORK_H

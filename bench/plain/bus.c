@@ -18,6 +18,13 @@ static unsigned lowest_match(const struct hi3110 *d, const uint8_t *frame)
     return n;
 }
 
+/* The identifier in Table 5's bytes 4 to 7, with LOST_EXTENDED for an extended one. */
+static uint32_t identifier(uint32_t bytes)
+{
+    uint32_t upper = bytes >> 21;
+    return bytes & ID_IDE ? HI3110_LOST_EXTENDED | upper << 18 | (bytes >> 1 & 0x3FFFF) : upper;
+}
+
 /* A frame that the mode takes, from the bus or from loopback, already stands in the temporary buffer. */
 static int arrive(struct hi3110 *d)
 {
@@ -36,13 +43,16 @@ static int arrive(struct hi3110 *d)
         else if (hit == 1)
             d->intf |= INTF_F1MESS;
     }
-    if (d->rx_count == HI3110_PLACES)
-        return HI3110_A5_FULL;
-    uint8_t *m = d->rx[(d->rx_head + d->rx_count++) % HI3110_PLACES];
+    bool full = d->rx_count == HI3110_PLACES;
+    if (!full)
+        d->rx_count++;
+    uint8_t *m = d->rx[(d->rx_head + d->rx_count - 1) % HI3110_PLACES];
+    if (full)
+        d->lost = identifier(get32(m + 3));
     m[0] = (frame[1] & ID_IDE >> 16 ? 0x80 : 0) | hit;
     memcpy(m + 1, d->temporary, 15);
     d->intf |= INTF_RXFIFO;
-    return HI3110_QUEUED;
+    return full ? HI3110_QUEUED_OVER : HI3110_QUEUED;
 }
 
 static void wake_up(struct hi3110 *d)

@@ -7,7 +7,7 @@
 #include <stdint.h>
 
 /* Numbers given back by a transfer or an event. A good frame, and a completion in loopback, also say what became
- * of the frame: QUEUED or one of the reasons A1 to A5. */
+ * of the frame: QUEUED, QUEUED_OVER or one of the reasons A1 to A4. */
 enum hi3110_answer {
     HI3110_DONE = 0,
     HI3110_NO_COMMAND = 2,
@@ -22,8 +22,10 @@ enum hi3110_answer {
     HI3110_A2_BUS_OFF,
     HI3110_A3_NOT_ACKNOWLEDGED,
     HI3110_A4_FILTERED,
-    HI3110_A5_FULL,
+    HI3110_QUEUED_OVER = 22, /* the latest message was overwritten: `lost` */
 };
+
+#define HI3110_LOST_EXTENDED 0x80000000u
 
 /* Bus events other than a good frame. `a` and `b` are the two particulars of hi3110_event. */
 enum hi3110_event_kind {
@@ -72,6 +74,7 @@ struct hi3110 {
     uint8_t intf, inte, statfe, gpine;
     uint8_t filhit, mtag;                    /* MESSTAT's, in place */
     uint16_t time_tag;
+    uint32_t lost;                           /* the identifier that was overwritten last, and LOST_EXTENDED */
 
     /* What outlives a reset. */
     uint8_t err;                             /* ERR's bits 4 to 0 */

@@ -13,6 +13,12 @@ static uint32_t little32(const uint8_t *p)
     return p[0] | (uint32_t)p[1] << 8 | (uint32_t)p[2] << 16 | (uint32_t)p[3] << 24;
 }
 
+static void put_little32(uint8_t *p, uint32_t v)
+{
+    for (int i = 0; i < 4; i++)
+        p[i] = v >> 8 * i;
+}
+
 static int frame(struct hi3110 *d, const uint8_t *r)
 {
     struct can_frame_event f = {
@@ -27,20 +33,25 @@ static int frame(struct hi3110 *d, const uint8_t *r)
     return hi3110_frame(d, &f);
 }
 
-static void run(struct hi3110 *d, const uint8_t *r, uint8_t *result)
+static int event(struct hi3110 *d, const uint8_t *r)
 {
     switch (r[0]) {
-    case WORK_TRANSFER:
-        result[0] = hi3110_transfer(d, r + 4, r[2], result + 1, r[1]);
-        break;
     case WORK_FRAME:
-        result[0] = frame(d, r);
-        break;
+        return frame(d, r);
     case WORK_TICKS:
-        result[0] = hi3110_event(d, HI3110_TICKS, little32(r + 4), 0);
-        break;
+        return hi3110_event(d, HI3110_TICKS, little32(r + 4), 0);
     default: /* the other kinds have the model's numbers */
-        result[0] = hi3110_event(d, r[0], r[1], r[2]);
+        return hi3110_event(d, r[0], r[1], r[2]);
+    }
+}
+
+static void run(struct hi3110 *d, const uint8_t *r, uint8_t *result)
+{
+    if (r[0] == WORK_TRANSFER) {
+        result[0] = hi3110_transfer(d, r + 4, r[2], result + 1, r[1]);
+    } else {
+        result[0] = event(d, r);
+        put_little32(result + 1, result[0] == HI3110_QUEUED_OVER ? d->lost : 0);
     }
 }
 

@@ -1,6 +1,7 @@
 //! The bus's side: events, the error counters and the way of a received frame.
 
 use crate::device::*;
+use crate::fate::Fate;
 use crate::frame::{data_bytes, Frame, Received};
 
 /// A frame as it is told, possible or not.
@@ -28,9 +29,6 @@ pub enum Event {
     TxenPin(bool),
     MrPin,
 }
-
-/// What became of a frame.
-pub type Fate = &'static str;
 
 /// Number 8.
 pub struct Impossible;
@@ -110,16 +108,16 @@ impl Device {
             Mode::Sleep => {
                 // The frame that wakes is itself lost.
                 self.wake_up();
-                return "A1";
+                return Fate::A1;
             }
-            Mode::Initialization | Mode::Loopback => return "A1",
+            Mode::Initialization | Mode::Loopback => return Fate::A1,
             _ => {}
         }
         if self.bus_off {
-            return "A2";
+            return Fate::A2;
         }
         if self.acting == Mode::Monitor && !acknowledged {
-            return "A3";
+            return Fate::A3;
         }
         if self.acting == Mode::Normal {
             self.rec = match self.rec {
@@ -154,15 +152,20 @@ impl Device {
         match filhit {
             0b1000 => self.intf |= INTF_F0MESS,
             0b1001 => self.intf |= INTF_F1MESS,
-            0b0000 if filtering => return "A4",
+            0b0000 if filtering => return Fate::A4,
             _ => {}
         }
-        if self.receive_fifo.len() == ROOM {
-            return "A5";
-        }
-        self.receive_fifo.push_back(received);
         self.intf |= INTF_RXFIFO;
-        "Queued"
+        self.queue(received)
+    }
+
+    /// Where an eighth message waits already, it gives up its place; the seven before it stay.
+    fn queue(&mut self, received: Received) -> Fate {
+        let eighth = self.receive_fifo.get(ROOM - 1);
+        let lost = eighth.map(|message| message.frame.name());
+        self.receive_fifo.truncate(ROOM - 1);
+        self.receive_fifo.push_back(received);
+        lost.map_or(Fate::Queued, Fate::QueuedOver)
     }
 
     /// The set of filters that match, filter n as bit n, whether filtering is on or not.

@@ -20,10 +20,11 @@ type Scene = fn(&mut Drawer);
 
 /// Scenes with their weights. Each script multiplies the weights by small numbers of its own, zero
 /// among them: a script without reads fills its queues, one without resets goes deep.
-const SCENES: [(Scene, usize); 23] = [
+const SCENES: [(Scene, usize); 24] = [
     (Drawer::arrivals, 6),
     (Drawer::set_filters, 3),
     (Drawer::filtered_arrivals, 7),
+    (Drawer::full_queue, 9),
     (Drawer::load_messages, 5),
     (Drawer::send, 12),
     (Drawer::send_in_loopback, 5),

@@ -10,10 +10,13 @@ impl Drawer {
     pub fn any_frame(&mut self) -> Frame {
         let extended = self.random.chance(45);
         let bits = if extended { 29 } else { 11 };
-        let identifier = match self.random.below(5) {
+        let any = self.random.bits() as u32 & ((1 << bits) - 1);
+        let identifier = match self.random.below(6) {
             0 => 1 << self.random.below(bits),
-            1 => self.random.pick(&[0, (1 << bits) - 1]),
-            _ => self.random.bits() as u32 & ((1 << bits) - 1),
+            1 => self.random.pick(&[0, 7, (1 << bits) - 1]),
+            // Of any number of digits.
+            2 => any >> self.random.below(bits),
+            _ => any,
         };
         let mut frame = Frame {
             identifier,
@@ -33,8 +36,11 @@ impl Drawer {
     }
 
     pub fn one_arrival(&mut self) {
-        let frame = self.any_frame();
-        self.say_frame(&Words::of(&frame));
+        let mut words = Words::of(&self.any_frame());
+        if self.random.chance(15) {
+            words = words.as_in_a_trace(self.random.below(6));
+        }
+        self.say_frame(&words);
     }
 
     /// The question is open in every mode, and whether filtering is on or not.

@@ -41,14 +41,19 @@ impl Words {
     pub fn of(frame: &Frame) -> Words {
         Words {
             header: format!(
-                "{:X} {} {} {}",
-                frame.identifier,
-                if frame.extended { "ext" } else { "std" },
+                "{} {} {}",
+                frame.name(),
                 if frame.remote { "remote" } else { "data" },
                 frame.length_code
             ),
             data: frame.data.iter().map(|b| format!(" {:02X}", b)).collect(),
         }
+    }
+
+    /// The identifier in lower case and after zeros, neither of which an answer repeats.
+    pub fn as_in_a_trace(self, zeros: usize) -> Words {
+        let header = "0".repeat(zeros) + &self.header.to_lowercase();
+        Words { header, ..self }
     }
 
     pub fn arriving(&self, acknowledged: bool) -> String {

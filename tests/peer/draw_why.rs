@@ -50,7 +50,8 @@ fn wished(seed: u64) -> &'static str {
         11 | 12 => "A1",
         13 | 14 => "A2",
         15 | 16 => "A3",
-        17 | 18 => "A5",
+        17 => "Queued-over std",
+        18 => "Queued-over ext",
         19..=21 => "8",
         22 => "read another request",
         23 => "read a line that can't be read",
@@ -73,7 +74,7 @@ fn any_script(seed: u64) -> Vec<String> {
         drawer.live_before();
         let frame = drawer.set_table();
         drawer.disturb();
-        drawer.fill_queue();
+        drawer.let_some_wait();
         drawer.turn_filtering();
         drawer.disturb();
         drawer.enter_state();
@@ -93,26 +94,21 @@ impl Drawer {
         self.goal = usize::MAX;
     }
 
-    /// With filtering off all come in, so that a frame may meet a full queue and no filter.
-    fn fill_queue(&mut self) {
-        if self.random.chance(55) || self.device().bus_off {
-            return;
-        }
-        self.spi(&[0x16, 0x00]);
-        self.ctrl0(0x00);
-        let wanted = self.random.pick(&[ROOM, ROOM, ROOM, ROOM - 1]);
-        for _ in self.device().receive_fifo.len()..wanted {
-            self.one_arrival();
+    /// Where more came than there is room for, the latest has itself taken another's place.
+    fn let_some_wait(&mut self) {
+        let arrivals = self.random.pick(&[ROOM, ROOM, ROOM + 2, ROOM - 1]);
+        if self.random.chance(45) {
+            self.fill_queue(arrivals);
         }
     }
 
-    fn turn_filtering(&mut self) {
+    pub fn turn_filtering(&mut self) {
         let others = self.random.pick(&[0x00, 0x00, 0x80, 0x4F]);
         let on = self.random.chance(90);
         self.spi(&[0x16, others | if on { CTRL1_FILTON } else { 0 }]);
     }
 
-    fn enter_state(&mut self) {
+    pub fn enter_state(&mut self) {
         match self.random.below(11) {
             0 => self.ctrl0(0x80),
             1 => self.ctrl0(0x20),

@@ -1,5 +1,7 @@
 //! Frames, and their bytes as 000's Tables 2, 4 and 5 lay them out.
 
+use std::fmt;
+
 #[derive(Clone)]
 pub struct Frame {
     /// 11 bits (ID28 to ID18) or, when extended, 29 bits (ID28 to ID0).
@@ -9,6 +11,13 @@ pub struct Frame {
     /// DLC as it came; codes 9 to 15 are kept though they mean eight bytes.
     pub length_code: u8,
     pub data: Vec<u8>,
+}
+
+/// A frame's identifier and kind, as lines write them.
+#[derive(Clone, Copy)]
+pub struct Name {
+    identifier: u32,
+    extended: bool,
 }
 
 /// A message to send: Table 2.
@@ -35,7 +44,21 @@ pub fn data_bytes(length_code: u8, remote: bool) -> usize {
     }
 }
 
+impl fmt::Display for Name {
+    fn fmt(&self, f: &mut fmt::Formatter) -> fmt::Result {
+        let kind = if self.extended { "ext" } else { "std" };
+        write!(f, "{:X} {}", self.identifier, kind)
+    }
+}
+
 impl Frame {
+    pub fn name(&self) -> Name {
+        Name {
+            identifier: self.identifier,
+            extended: self.extended,
+        }
+    }
+
     /// The identifier at its 29-bit places, so that ID28 is bit 28 for both kinds.
     fn aligned(&self) -> u32 {
         if self.extended {

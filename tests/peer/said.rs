@@ -1,12 +1,19 @@
 //! What a program says to a script, line by line, and how much of each line is fixed.
 
-/// One line of output. Where words stand in its middle, any others would do as well.
+/// One line of output.
 pub struct Said {
     start: String,
-    words: Option<&'static str>,
-    /// One that the free words have to have.
-    word: &'static str,
+    words: Words,
     end: String,
+}
+
+/// What stands between a line's start and its end.
+enum Words {
+    None,
+    /// Any others would do as well.
+    Free(&'static str),
+    /// Any others would do that have these among them.
+    Needed(String),
 }
 
 /// A program that reads a script, told byte by byte.
@@ -18,12 +25,21 @@ pub trait Model {
     fn end(&mut self) -> Vec<Said>;
 }
 
+impl Words {
+    fn text(&self) -> &str {
+        match self {
+            Words::None => "",
+            Words::Free(words) => words,
+            Words::Needed(words) => words,
+        }
+    }
+}
+
 impl Said {
     pub fn exactly(text: String) -> Said {
         Said {
             start: text,
-            words: None,
-            word: "",
+            words: Words::None,
             end: String::new(),
         }
     }
@@ -31,14 +47,17 @@ impl Said {
     pub fn freely(start: String, words: &'static str, end: String) -> Said {
         Said {
             start,
-            words: Some(words),
-            word: "",
+            words: Words::Free(words),
             end,
         }
     }
 
-    pub fn with(self, word: &'static str) -> Said {
-        Said { word, ..self }
+    /// The free words have to have these.
+    pub fn with(self, words: String) -> Said {
+        Said {
+            words: Words::Needed(words),
+            ..self
+        }
     }
 
     pub fn after(self, mark: &str) -> Said {
@@ -49,18 +68,20 @@ impl Said {
     }
 
     pub fn text(&self) -> String {
-        self.start.clone() + self.words.unwrap_or("") + &self.end
+        self.start.clone() + self.words.text() + &self.end
     }
 
     /// Whether the program's line is this one; free words may not be left out.
     pub fn agrees(&self, program: &[u8]) -> bool {
-        if self.words.is_none() {
-            return program == self.start.as_bytes();
-        }
+        let needed = match &self.words {
+            Words::None => return program == self.start.as_bytes(),
+            Words::Free(_) => "",
+            Words::Needed(words) => words,
+        };
         program.len() > self.start.len() + self.end.len()
             && program.starts_with(self.start.as_bytes())
             && program.ends_with(self.end.as_bytes())
-            && String::from_utf8_lossy(program).contains(self.word)
+            && String::from_utf8_lossy(program).contains(needed)
     }
 }
 

@@ -4,8 +4,17 @@ use crate::said::Said;
 use std::collections::{BTreeMap, BTreeSet};
 use std::fmt;
 
-/// With these begins what is said of a frame.
-const ANSWERS: [&str; 7] = ["Queued", "A1", "A2", "A3", "A4", "A5", "8"];
+/// With the first word begins what is said of a frame; where there is a second, the line ends with it.
+const ANSWERS: [&str; 8] = [
+    "Queued",
+    "Queued-over std",
+    "Queued-over ext",
+    "A1",
+    "A2",
+    "A3",
+    "A4",
+    "8",
+];
 /// With these ends what is said where no frame comes last.
 const ENDINGS: [&str; 3] = [
     "read another request",
@@ -15,13 +24,17 @@ const ENDINGS: [&str; 3] = [
 const UNREADABLE: &str = "lines that can't be read";
 const REFUSED: &str = "lines that are refused";
 
+fn gives(line: &str, answer: &str) -> bool {
+    let (word, end) = answer.split_once(' ').unwrap_or((answer, ""));
+    line.split(':').next() == Some(word) && line.ends_with(end)
+}
+
 /// One of those above, or nothing for a line that tells of a filter.
 fn kind(line: &str) -> Option<&'static str> {
     if line.starts_with("filter ") {
         return None;
     }
-    let first = line.split(':').next();
-    let answer = ANSWERS.iter().find(|word| first == Some(**word));
+    let answer = ANSWERS.iter().find(|answer| gives(line, answer));
     let ending = ENDINGS.iter().find(|end| line.ends_with(**end));
     Some(match answer.or(ending) {
         Some(kind) => kind,

@@ -2,9 +2,11 @@
 
 use crate::bus::{Event, Impossible, ToldFrame};
 use crate::device::{Device, Mode, CTRL0_WAKEUP};
+use crate::fate::Fate;
 use crate::request::Request;
 use crate::said::{Model, Said};
 use crate::script::{answer, Line, Lines};
+use std::iter;
 
 /// 000's Table 4a, each byte from bit 7 down. The last bit of byte 4 has no name, there and in 4b,
 /// and does not count.
@@ -103,18 +105,22 @@ impl Why {
         let seen = frame.filter_bytes();
         let mode = self.mode();
         let fate = self.device.good_frame(frame, acknowledged);
-        let mut said = vec![explained(fate)];
-        if fate == "A1" {
-            return said.into_iter().map(|said| said.with(mode)).collect();
+        let answer = explained(fate.word());
+        match fate {
+            Fate::A1 => vec![answer.with(mode.to_string())],
+            Fate::A4 => iter::once(answer).chain(self.differences(seen)).collect(),
+            Fate::QueuedOver(lost) => vec![answer.with(format!("lost: {}", lost))],
+            _ => vec![answer],
         }
-        if fate == "A4" {
-            for n in 0..8 {
-                let (filter, mask) = (self.device.filters[n], self.device.masks[n]);
-                let place = first_difference(filter, mask, seen).expect("none matches under A4");
-                said.push(Said::exactly(format!("filter {}: {}", n, place)));
-            }
-        }
-        said
+    }
+
+    /// Of each filter, where none matches.
+    fn differences(&self, seen: [u8; 6]) -> impl Iterator<Item = Said> + '_ {
+        (0..8).map(move |n| {
+            let (filter, mask) = (self.device.filters[n], self.device.masks[n]);
+            let place = first_difference(filter, mask, seen).expect("none matches under A4");
+            Said::exactly(format!("filter {}: {}", n, place))
+        })
     }
 }
 

@@ -84,11 +84,11 @@ fn event_of(r: &[u8]) -> Event {
 fn arrived(a: Arrival) -> u8 {
     match a {
         Arrival::Queued => 16,
+        Arrival::QueuedOver(_, _) => 22,
         Arrival::A1 => 17,
         Arrival::A2 => 18,
         Arrival::A3 => 19,
         Arrival::A4 => 20,
-        Arrival::A5 => 21,
     }
 }
 
@@ -100,6 +100,39 @@ fn said(a: Answer) -> u8 {
     }
 }
 
+// An identifier, and the highest bit for an extended one.
+fn named(id: u32, extended: bool) -> u32 {
+    let low = id % 2147483648;
+    if extended { low + 2147483648 } else { low }
+}
+
+fn over(a: Arrival) -> u32 {
+    match a {
+        Arrival::QueuedOver(id, extended) => named(id, extended),
+        _ => 0,
+    }
+}
+
+// What was overwritten, or 0.
+fn lost(a: Answer) -> u32 {
+    match a {
+        Answer::Arrived(what) => over(what),
+        _ => 0,
+    }
+}
+
+fn tell(a: Answer, result: &mut [u8]) {
+    let n = lost(a);
+    let bytes = [
+        said(a),
+        (n % 256) as u8,
+        (n / 256 % 256) as u8,
+        (n / 65536 % 256) as u8,
+        (n / 16777216) as u8,
+    ];
+    base::put(&bytes, result);
+}
+
 pub(crate) fn happens(o: Outcome, r: &[u8], result: &mut [u8]) -> Outcome
     requires { ⌜ length (now r) ≡ 20 ⌝ }
     requires { ⌜ length (now result) ≡ 17 ⌝ }
@@ -109,7 +142,7 @@ pub(crate) fn happens(o: Outcome, r: &[u8], result: &mut [u8]) -> Outcome
     let d = o.device;
     let p = bus::event(d, event, payload);
     let a = p.answer;
-    result[0] = said(a);
+    tell(a, result);
     let device = p.device;
     Outcome { device, number: 0 }
 }

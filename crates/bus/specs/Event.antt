@@ -1,12 +1,12 @@
 -- An event's answer and the device after it (01, Numbers given back): 1 before 8, and a refusal changes nothing.
 use mathlib.Core.List.{List, [], _∷_}
 use Prim.Native.Nat.{ℕ}
-use Rattle.base.specs.Pick.{pick}
+use Rattle.base.specs.Pick.{pick, flag}
 use Rattle.chip.specs.declared.Device.{Device}
 use Rattle.chip.specs.Proper.{proper}
 use Rattle.receive.specs.declared.Arrival.{Arrival}
 use Rattle.receive.specs.declared.Brought.{Brought}
-use Rattle.receive.specs.declared.Arrival.the-variants.{Queued, A1, A2, A3, A4, A5}
+use Rattle.receive.specs.declared.Arrival.the-variants.{Queued, QueuedOver, A1, A2, A3, A4}
 use Rattle.receive.specs.Receive.{hits}
 use Rattle.judged.specs.declared.Answer.{Answer}
 use Rattle.judged.specs.declared.Answer.the-variants.{Refused, Done, Arrived}
@@ -21,19 +21,20 @@ numberOf (Refused n) = n
 numberOf Done = 0
 numberOf (Arrived what) = 0
 
--- and its values: 0 for Queued, else the reason's number
-unfoldable pub reasonOf : Arrival → ℕ
-reasonOf Queued = 0
-reasonOf A1 = 1
-reasonOf A2 = 2
-reasonOf A3 = 3
-reasonOf A4 = 4
-reasonOf A5 = 5
+-- and its values: 0 for Queued, the reason's number for A1 to A4; for Queued-over-latest 6, then the identifier that
+-- was lost, and 0 or 1 for standard or extended. 5 was A5's, which 02 d) withdraws.
+unfoldable pub arrivalValues : Arrival → List ℕ
+arrivalValues Queued = 0 ∷ []
+arrivalValues (QueuedOver id extended) = 6 ∷ id ∷ flag extended ∷ []
+arrivalValues A1 = 1 ∷ []
+arrivalValues A2 = 2 ∷ []
+arrivalValues A3 = 3 ∷ []
+arrivalValues A4 = 4 ∷ []
 
 unfoldable pub valuesOf : Answer → List ℕ
 valuesOf (Refused n) = []
 valuesOf Done = []
-valuesOf (Arrived what) = reasonOf what ∷ []
+valuesOf (Arrived what) = arrivalValues what
 
 unfoldable pub answered : Device → Event → Brought → ℕ → Answer
 answered d e b set =

@@ -10,7 +10,7 @@ use Rattle.chip.specs.Parts.{with-counters, with-time, with-txenpin}
 use Rattle.chip.specs.State.{normal, unlessMonitor, bor}
 use Rattle.receive.specs.declared.Arrival.{Arrival}
 use Rattle.receive.specs.declared.Brought.{Brought}
-use Rattle.receive.specs.declared.Arrival.the-variants.{Queued, A1, A2, A3, A4, A5}
+use Rattle.receive.specs.declared.Arrival.the-variants.{Queued, QueuedOver, A1, A2, A3, A4}
 use Rattle.flags.specs.Flags.{busError}
 use Rattle.modes.specs.Modes.{busQuiet, busActivity}
 use Rattle.receive.specs.Receive.{arrived}
@@ -31,7 +31,7 @@ errBit Crc = 4
 errBit Form = 8
 errBit Bit = 16
 
--- "Good frame in normal mode, answered Queued, A4 or A5: REC - 1"
+-- "Good frame in normal mode, answered Queued, A4 …: REC - 1", and Queued-over-latest is "counted as Queued" (02, d))
 unfoldable pub countedFrame : Counters → ℕ → Counters
 countedFrame c acting = pick (eqb acting normal) (goodFrame c) c
 
@@ -39,14 +39,14 @@ countedFrame c acting = pick (eqb acting normal) (goodFrame c) c
 unfoldable pub heard : Device → Device
 heard d = with-counters d (countedFrame (d .counters) (d .acting))
 
--- "A1 to A3 leave the temporary buffer alone. A4, A5 and Queued put the frame there."
+-- "A1 to A3 leave the temporary buffer alone. A4 … and Queued put the frame there."
 unfoldable pub reachesTemporary : Arrival → Bool
 reachesTemporary Queued = true
+reachesTemporary (QueuedOver id extended) = true
 reachesTemporary A1 = false
 reachesTemporary A2 = false
 reachesTemporary A3 = false
 reachesTemporary A4 = true
-reachesTemporary A5 = true
 
 -- "Receive error: REC + 1."
 unfoldable pub countedReceiveError : Counters → ℕ → Counters

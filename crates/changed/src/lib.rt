@@ -52,11 +52,11 @@ fn reaches_temporary(what: Arrival) -> bool
 {
     match what {
         Arrival::Queued => true,
+        Arrival::QueuedOver(_, _) => true,
         Arrival::A1 => false,
         Arrival::A2 => false,
         Arrival::A3 => false,
         Arrival::A4 => true,
-        Arrival::A5 => true,
     }
 }
 

@@ -3,6 +3,7 @@ use crate::device;
 use crate::text::bytes;
 use crate::text::decimal;
 use crate::text::hex;
+use crate::text::hex_number;
 use crate::text::pin;
 use crate::text::raw;
 use crate::text::text;
@@ -117,14 +118,25 @@ fn transfer(d: Device, given: [u8; 16], count: usize, lent: u8, out: &mut [u8], 
     Turn { device, used }
 }
 
+// Behind the word the message that is lost, as a line writes it: `123 std`.
+fn over_latest(out: &mut [u8], at: usize, id: u32, extended: bool) -> usize {
+    let n = text(out, at, b"Queued-over ");
+    let n = hex_number(out, n, id);
+    if extended {
+        text(out, n, b" ext")
+    } else {
+        text(out, n, b" std")
+    }
+}
+
 pub(crate) fn word(out: &mut [u8], at: usize, what: Arrival) -> usize {
     match what {
         Arrival::Queued => text(out, at, b"Queued"),
+        Arrival::QueuedOver(id, extended) => over_latest(out, at, id, extended),
         Arrival::A1 => text(out, at, b"A1"),
         Arrival::A2 => text(out, at, b"A2"),
         Arrival::A3 => text(out, at, b"A3"),
         Arrival::A4 => text(out, at, b"A4"),
-        Arrival::A5 => text(out, at, b"A5"),
     }
 }
 

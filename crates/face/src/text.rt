@@ -25,6 +25,20 @@ pub(crate) fn hex(out: &mut [u8], at: usize, b: u8) -> usize {
     raw(out, n, digit(b % 16))
 }
 
+// A number of eight hex digits, of which zeros at the left are left out.
+pub(crate) fn hex_number(out: &mut [u8], at: usize, number: u32) -> usize {
+    let mut n = at;
+    let mut place: u32 = 8;
+    while 0 < place {
+        place -= 1;
+        let upper = number >> (4 * place);
+        if (0 < upper) | (place == 0) {
+            n = raw(out, n, digit((upper % 16) as u8));
+        }
+    }
+    n
+}
+
 // Whether a byte shows as itself, also between quotes.
 fn is_plain(b: u8) -> bool {
     (b' ' <= b) & (b != b'"') & (b != b'\\') & (b <= b'~')

@@ -1,5 +1,5 @@
 -- A queue of up to eight messages, in a ring of eight places (01: "eight messages wait", "eight entries, a ninth is
--- not stored").
+-- not stored"; 02, d): "takes the eighth one's place").
 use mathlib.Core.Bool.{Bool, _&&_}
 use mathlib.Core.List.{List, []}
 use Prim.Native.Nat.{ℕ, _+_, _-_, _%_}
@@ -48,6 +48,18 @@ put q m =
     pick (full q) q
     (record { items = set (q .items) (place q (q .count)) m; first = q .first; count = q .count + 1 })
 
+-- the place of the latest message: seven steps on from the place behind it, which is one step back
+abbrev pub latestPlace : Fifo → ℕ
+latestPlace q = place q (q .count + 7)
+
+-- 000: "When the FIFO is full (8 completed messages received), the next received message will overwrite the latest
+-- message stored in the FIFO."
+unfoldable pub putOver : Fifo → Message → Fifo
+putOver q m =
+    pick (full q)
+    (record { items = set (q .items) (latestPlace q) m; first = q .first; count = q .count })
+    (put q m)
+
 -- The oldest is taken off.
 unfoldable pub take : Fifo → Fifo
 take q =
@@ -57,6 +69,10 @@ take q =
 -- The oldest.
 unfoldable pub next : Fifo → Message
 next q = getD (q .items) (place q 0) absent
+
+-- The latest.
+unfoldable pub latest : Fifo → Message
+latest q = getD (q .items) (latestPlace q) absent
 
 unfoldable pub inRange : Fifo → Bool
 inRange q = ltb (q .first) 8 && leb (q .count) 8

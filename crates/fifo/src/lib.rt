@@ -1,6 +1,6 @@
 // A queue of up to eight messages. The receive FIFO, the transmit FIFO and the transmit history are each one.
 ghost use mathlib.Core.Path.{_≡_};
-ghost use Rattle.fifo.specs.Queue.{empty, eightWait, noneWaits, full, isEmpty, put, take, next, inRange};
+ghost use Rattle.fifo.specs.Queue.{empty, eightWait, noneWaits, full, isEmpty, put, putOver, take, next, latestPlace, latest, inRange};
 
 // Sixteen bytes, as 000's Table 5 lays out a message; in a message to send, byte 1 is its tag.
 pub struct Message {
@@ -66,6 +66,28 @@ pub fn put(q: Fifo, m: Message) -> Fifo
     }
 }
 
+// Seven steps on from the place behind the latest message, which is one step back.
+fn latest_place(q: Fifo) -> usize
+    ensures { λ r. ⌜ r ≡ latestPlace q ⌝ }
+{
+    let steps = q.count as usize + 7;
+    (q.first as usize + steps) % 8
+}
+
+// The message comes last; where eight wait, it takes the place of the latest.
+pub fn put_over(q: Fifo, m: Message) -> Fifo
+    ensures { λ r. ⌜ r ≡ putOver q m ⌝ }
+{
+    if full(q) {
+        let place = latest_place(q);
+        let mut p = q;
+        p.items[place] = m;
+        p
+    } else {
+        put(q, m)
+    }
+}
+
 // Without the oldest message.
 pub fn take(q: Fifo) -> Fifo
     ensures { λ r. ⌜ r ≡ take q ⌝ }
@@ -88,6 +110,14 @@ pub fn next(q: Fifo) -> Message
     ensures { λ r. ⌜ r ≡ next q ⌝ }
 {
     let place = (q.first % 8) as usize;
+    q.items[place]
+}
+
+// The latest message.
+pub fn latest(q: Fifo) -> Message
+    ensures { λ r. ⌜ r ≡ latest q ⌝ }
+{
+    let place = latest_place(q);
     q.items[place]
 }
 

@@ -64,7 +64,7 @@ unfoldable pub unacknowledged : ℕ → Bool → Bool
 unacknowledged acting acknowledged = eqb acting monitor && not acknowledged
 
 -- "the first that holds": A1; "A2 bus off"; A3; then the filters and the room. "A1 speaks only of frames from the bus",
--- and so do A2 and A3: a completion's answer "says Queued, A4 or A5".
+-- and so do A2 and A3: a completion's answer "says Queued, A4" or, since 02 d), Queued-over-latest.
 unfoldable pub reason : Device → Brought → ℕ → Arrival
 reason d b set =
     pick (b .own) (filtersAndRoom d set)

@@ -83,11 +83,17 @@ module _ (M : Type 1) where
   pub fifo·put : OneResult M fifo.put.ended fifo.put.spec
   fifo·put = result fifo.put.clauses (λ _. Queue.put) refl
 
+  pub fifo·put-over : OneResult M fifo.put_over.ended fifo.put_over.spec
+  fifo·put-over = result fifo.put_over.clauses (λ _. Queue.putOver) refl
+
   pub fifo·take : OneResult M fifo.take.ended fifo.take.spec
   fifo·take = result fifo.take.clauses (λ _. Queue.take) refl
 
   pub fifo·next : OneResult M fifo.next.ended fifo.next.spec
   fifo·next = result fifo.next.clauses (λ _. Queue.next) refl
+
+  pub fifo·latest : OneResult M fifo.latest.ended fifo.latest.spec
+  fifo·latest = result fifo.latest.clauses (λ _. Queue.latest) refl
 
   pub fifo·in-range : OneResult M fifo.in_range.ended fifo.in_range.spec
   fifo·in-range = result fifo.in_range.clauses (λ _. Queue.inRange) refl

@@ -26,16 +26,17 @@ use Rattle.commands.specs.Table.{rows, lookup}
 use Rattle.refused.specs.Refused.{findsFull, findsNone}
 use Rattle.shown.specs.Shown.{shows}
 use Rattle.promise.specs.Promises.{EachAnswerIsDue, SettingsAreThoseWritten, CountersAreTheRulesSum, TheTimeTagIsTheTicks, ErrIsTheKindsSeen}
-use Rattle.promise.specs.Promises.{IntfIsTheFlagsRaised, PinsShowTheRecords, NoFrameIsLost, FieldsStandAsTheyArrived, OwnMessagesAreThoseWritten}
+use Rattle.promise.specs.Promises.{IntfIsTheFlagsRaised, PinsShowTheRecords, OnlyTheReplacedAreLost, EachLossIsTold, FieldsStandAsTheyArrived, OwnMessagesAreThoseWritten}
 use Rattle.promise.specs.Promises.{TheAnswersKeepTheRecords, TheFiltersAreToldAsWritten, AnyDeviceGoesOnSo}
-use Rattle.promise.specs.Sequence.{Input, spi, wire, Given, Step, shipped as step, number, values, done, run, conversation}
+use Rattle.promise.specs.Sequence.{Input, spi, wire, Given, Step, shipped as step, number, values, fate, done, run, conversation}
 use Rattle.promise.specs.Commands.{lengthsOf, transferFits}
 use Rattle.promise.specs.Own.{messageFits}
 use Rattle.promise.specs.Numbers.{situation, applies, numberDue}
 use Rattle.promise.specs.Due.{Due, situationOf}
 use Rattle.promise.specs.Held.{Pinned, Holds}
-use Rattle.promise.specs.After.{recorded}
+use Rattle.promise.specs.After.{recorded, LosesAsTold}
 use Rattle.promise.specs.Arrivals.{valuesDue}
+use Rattle.promise.specs.Ledger.{kept as kept-in}
 use Rattle.promise.specs.Noted.{noted, byTheRules, byTheAnswers, happened}
 use Rattle.promise.specs.Records.{Records, start}
 use Rattle.promise.specs.Questions.{Told}
@@ -47,11 +48,12 @@ use Rattle.promise.proofs.CommandsKept.{command-kept}
 use Rattle.promise.proofs.EventsKept.{event-agrees}
 use Rattle.promise.proofs.Held.{held-in, held-kept, kept-held}
 use Rattle.promise.proofs.Kept.{Kept, fresh-kept, situation-same}
+use Rattle.promise.proofs.Losses.{losses-told}
 use Rattle.promise.proofs.Lowest.{lowest-none}
 use Rattle.promise.proofs.Proper.{stays, fresh-in}
 use Rattle.promise.proofs.Queues.{taken-waits}
 use Rattle.promise.proofs.Questions.{told-kept}
-use Rattle.promise.proofs.Ranges.{InRange}
+use Rattle.promise.proofs.Ranges.{InRange, count-below}
 use Rattle.promise.proofs.Replies.{command-shows, intf-same, statf-same}
 use Rattle.promise.proofs.Rows.{asked-same}
 use Rattle.promise.proofs.Steps.{keeps, noted-more, refusedTransfer, doneTransfer, by-transfer, refusedEvent, saidOf, doneEvent, by-event}
@@ -132,7 +134,7 @@ module _ (d : Device) (r : Records) (range : InRange d) (h : Kept d r) where
         → Agrees an-event (doneEvent d e payload (saidOf d e payload))
     done-event-agrees can is =
         let number-is = number-of-answer d e payload (saidOf d e payload) ∙ said-done d _ _ in
-        let agrees = event-agrees d r h e payload can in
+        let agrees = event-agrees d r h (count-below (d .rx) (range .0)) e payload can in
         (rw number-is (agrees .0), (is, rw (← is, number-is) (agrees .1)))
 
     event-kept : Agrees an-event (step d an-event)
@@ -179,11 +181,14 @@ module _ (d : Device) (r : Records) (h : Holds d r) where
   pinned-in : Pinned pins d r
   pinned-in = pins-same d r range kept
 
+  losses-in : LosesAsTold step d r
+  losses-in i = losses-told d r (step d i) h i (holds-on i) (due-in i)
+
   told-in : Told hits d r
   told-in = told-kept d r range kept
 
 pub onward : AnyDeviceGoesOnSo
-onward d r h = (pinned-in d r h, due-in d r h, holds-on d r h, told-in d r h)
+onward d r h = (pinned-in d r h, due-in d r h, holds-on d r h, losses-in d r h, told-in d r h)
 
 -- ---- along a sequence
 
@@ -217,8 +222,11 @@ pinned is = pinned-in (run step fresh is) (recorded step is) (always is)
 pub told : TheFiltersAreToldAsWritten
 told is = told-in (run step fresh is) (recorded step is) (always is)
 
-pub whole : NoFrameIsLost
+pub whole : OnlyTheReplacedAreLost
 whole is = always is .whole
+
+pub losses : EachLossIsTold
+losses is = losses-in (run step fresh is) (recorded step is) (always is)
 
 pub as-arrived : FieldsStandAsTheyArrived
 as-arrived is = always is .arrived
@@ -229,7 +237,7 @@ as-written is = always is .written
 -- ---- by what was answered
 
 told-same : (t : Bool) (r : Records) (e : Event) (payload told : List ℕ) (n : ℕ) → eqb n 0 ≡ t → told ≡ pick (eqb n 0) (valuesDue r e payload) []
-    → pick t (happened r e payload (byte told 1)) r ≡ pick t (happened r e payload (byte (valuesDue r e payload) 1)) r
+    → pick t (happened r e payload (fate told)) r ≡ pick t (happened r e payload (fate (valuesDue r e payload))) r
 told-same true r e payload told n is due = rw (due, is)
 told-same false r e payload told n is due = refl
 
@@ -258,5 +266,5 @@ recorded-more is i = noted-more (noted byTheRules) fresh start is i
 
 -- how many were taken and how many wait
 pub taken-and-left : (is : List Input)
-    → length (recorded step is .ledger .taken) + run step fresh is .rx .count ≡ length (recorded step is .ledger .accepted)
+    → length (recorded step is .ledger .taken) + run step fresh is .rx .count ≡ length (kept-in (recorded step is .ledger))
 taken-and-left is = taken-waits (run step fresh is .rx) (recorded step is .ledger) (kept (run step fresh is) (recorded step is) (always is) .3 .2)

@@ -2,20 +2,22 @@
 use mathlib.Core.Path.{_≡_, refl, sym, _∙_, ap, ap₂, subst}
 use mathlib.Core.Bool.{Bool, true, false, _&&_, false≢true}
 use mathlib.Core.List.{List, [], _∷_}
-use Prim.Native.Nat.{ℕ, zero, suc, _+_, _<_, _≤_}
+use Prim.Native.Nat.{ℕ, zero, suc, _+_, _≤_}
 use native.Mathlib.Omega.{arith}
-use borrow.Author.Tests.{ne-eqb, leb-false}
+use borrow.Author.Tests.{ne-eqb, leb-true}
 use lib.Bits.{bitOr, or-zero-r}
 use lib.Dec.{eqb, leb}
 use lib.ListN.{drop}
 use Rattle.base.specs.Bit.{isSet}
-use Rattle.base.specs.Pick.{pick}
+use Rattle.base.specs.Pick.{pick, flag}
 use Rattle.counters.specs.Rules.{goodFrame}
-use Rattle.fifo.specs.Queue.{full}
+use Rattle.fifo.specs.Queue.{full, putOver, latest}
 use Rattle.filter.specs.Hits.{lowestFrom, filhit}
 use Rattle.fifo.specs.declared.Message.{Message}
 use Rattle.frame.specs.declared.Header.{Header}
 use Rattle.frame.specs.Length.{possible}
+use Rattle.frame.specs.Received.{headerIn}
+use Rattle.frame.proofs.ReadBack.{header-back}
 use Rattle.chip.specs.declared.Device.{Device}
 use Rattle.chip.specs.State.{filton}
 use Rattle.flags.specs.Flags.{raised}
@@ -23,28 +25,29 @@ use Rattle.transmit.specs.Transmit.{transmitted}
 use Rattle.modes.specs.Modes.{busActivity}
 use Rattle.receive.specs.declared.Arrival.{Arrival}
 use Rattle.receive.specs.declared.Brought.{Brought}
-use Rattle.receive.specs.declared.Arrival.the-variants.{Queued, A1, A2, A3, A4, A5}
-use Rattle.receive.specs.Receive.{matching, hits, filtersAndRoom, isQueued, queuedFlag, filterFlag, queueAfter, message as messageAt, arrived}
+use Rattle.receive.specs.declared.Arrival.the-variants.{Queued, QueuedOver, A1, A2, A3, A4}
+use Rattle.receive.specs.Receive.{matching, hits, overLatest as overLatestOf, filtersAndRoom, isQueued, queuedFlag, filterFlag, queueAfter, message as messageAt, arrived}
 use Rattle.judged.specs.Judged.{quietMode, takesNoFrames, unacknowledged, reason}
 use Rattle.changed.specs.Changed.{countedFrame, heard, taken, reachesTemporary, arrival}
-use Rattle.bus.specs.Event.{reasonOf}
+use Rattle.bus.specs.Event.{arrivalValues}
 use Rattle.promise.specs.Counting.{frameHeard}
 use Rattle.promise.specs.Flags.{rxtmp, rxfifo, f0mess, f1mess, raise, together}
 use Rattle.promise.specs.Filters.{compared}
 use Rattle.promise.specs.Frames.{Frame, message}
 use Rattle.promise.specs.Hits.{filhitOf}
-use Rattle.promise.specs.Ledger.{left, accepts}
-use Rattle.promise.specs.Arrivals.{matching as matchingBy, arriving, firstTrue, fromTheBus, reasons}
-use Rattle.promise.specs.Noted.{reaches, arrivalMet, frameMet}
+use Rattle.promise.specs.Ledger.{Ledger, left, newest, accepts}
+use Rattle.promise.specs.Arrivals.{matching as matchingBy, arriving, firstTrue, fromTheBus, reasons, overLatest, toldBy}
+use Rattle.promise.specs.Noted.{reaches, joins, entered, arrivalMet, frameMet}
 use Rattle.promise.specs.Records.{Records}
+use Rattle.promise.specs.Sequence.{fate}
 use Rattle.promise.specs.Settings.{Settings, patterns, filton as filtonBit}
 use Rattle.promise.proofs.Banks.{bank-patterns}
 use Rattle.promise.proofs.Choices.{pick-keeps, pick-both}
 use Rattle.promise.proofs.Kept.{Kept}
 use Rattle.promise.proofs.ModesKept.{activity-kept}
-use Rattle.promise.proofs.Queues.{HoldsLedger, left-waits, queue-after}
+use Rattle.promise.proofs.Queues.{HoldsLedger, left-waits, newest-latest, newest-shown, accepts-holds}
 use Rattle.promise.proofs.Matching.{hits-same as hits-alike, filhit-same}
-use Rattle.promise.proofs.Shown.{compared-same, shows-fields}
+use Rattle.promise.proofs.Shown.{compared-same, shows-fields, shown-possible}
 
 -- ---- flags that rise
 
@@ -77,78 +80,104 @@ filter-flags x set =
     by-lowest x (lowestFrom 6 2 set) (isSet 0 set) (isSet 1 set) (rest .0) (rest .1)
 
 -- an arrival's flags, in one byte
-flags-risen : (told n : ℕ) (up : List ℕ)
-    → together (raise (eqb n 9) f1mess (raise (eqb n 8) f0mess (raise (eqb told 0) rxfifo (rxtmp ∷ up))))
-    ≡ byFilhit (bitOr (bitOr (together up) rxtmp) (pick (eqb told 0) rxfifo 0)) n
-flags-risen told n up =
+flags-risen : (queued : Bool) (n : ℕ) (up : List ℕ)
+    → together (raise (eqb n 9) f1mess (raise (eqb n 8) f0mess (raise queued rxfifo (rxtmp ∷ up))))
+    ≡ byFilhit (bitOr (bitOr (together up) rxtmp) (pick queued rxfifo 0)) n
+flags-risen queued n up =
     rw (
-      raised-too (eqb n 9) f1mess (raise (eqb n 8) f0mess (raise (eqb told 0) rxfifo (rxtmp ∷ up))),
-      raised-too (eqb n 8) f0mess (raise (eqb told 0) rxfifo (rxtmp ∷ up)),
-      raised-too (eqb told 0) rxfifo (rxtmp ∷ up),
+      raised-too (eqb n 9) f1mess (raise (eqb n 8) f0mess (raise queued rxfifo (rxtmp ∷ up))),
+      raised-too (eqb n 8) f0mess (raise queued rxfifo (rxtmp ∷ up)),
+      raised-too queued rxfifo (rxtmp ∷ up),
     )
 
--- ---- what an arrival's number says
+-- ---- what an arrival's first value says
 
-queued-same : (what : Arrival) → isQueued what ≡ eqb (reasonOf what) 0
-unfolding isQueued reasonOf
+abbrev pub reasonOf : Arrival → ℕ
+reasonOf what = fate (arrivalValues what)
+
+queued-same : (what : Arrival) → isQueued what ≡ joins (reasonOf what)
+unfolding isQueued arrivalValues
 queued-same Queued = refl
+queued-same (QueuedOver id extended) = refl
 queued-same A1 = refl
 queued-same A2 = refl
 queued-same A3 = refl
 queued-same A4 = refl
-queued-same A5 = refl
 
 reaches-same : (what : Arrival) → reachesTemporary what ≡ reaches (reasonOf what)
-unfolding reachesTemporary reasonOf
+unfolding reachesTemporary arrivalValues
 reaches-same Queued = refl
+reaches-same (QueuedOver id extended) = refl
 reaches-same A1 = refl
 reaches-same A2 = refl
 reaches-same A3 = refl
 reaches-same A4 = refl
-reaches-same A5 = refl
 
-by-bus : (a b c : Bool) (what : Arrival) → reasonOf (pick a A1 (pick b A2 (pick c A3 what))) ≡ pick a 1 (pick b 2 (pick c 3 (reasonOf what)))
-unfolding reasonOf
-by-bus true b c what = refl
-by-bus false true c what = refl
-by-bus false false true what = refl
-by-bus false false false what = refl
+by-bus : (l : Ledger) (a b c : Bool) (what : Arrival) (n : ℕ) → arrivalValues what ≡ toldBy l n
+    → arrivalValues (pick a A1 (pick b A2 (pick c A3 what))) ≡ toldBy l (pick a 1 (pick b 2 (pick c 3 n)))
+unfolding arrivalValues
+by-bus l true b c what n is = refl
+by-bus l false true c what n is = refl
+by-bus l false false true what n is = refl
+by-bus l false false false what n is = is
 
 -- the filters, then the room
-by-match : (t full : Bool) → reasonOf (pick t A4 (pick full A5 Queued)) ≡ pick t 4 (pick full 5 0)
-unfolding reasonOf
-by-match true full = refl
-by-match false true = refl
-by-match false false = refl
+by-match : (l : Ledger) (t full : Bool) (over : Arrival) → leb 8 (left l) ≡ full → (full ≡ true → arrivalValues over ≡ overLatest (newest l))
+    → arrivalValues (pick t A4 (pick full over Queued)) ≡ toldBy l (pick t 4 0)
+unfolding arrivalValues
+by-match l true full over is named = refl
+by-match l false true over is named = named refl ∙ ap (λ (t : Bool). pick t (overLatest (newest l)) (0 ∷ [])) (sym is)
+by-match l false false over is named = ap (λ (t : Bool). pick t (overLatest (newest l)) (0 ∷ [])) (sym is)
 
--- a frame that is told 0 found room
-own-room : (a t : Bool) (n : ℕ) → leb 8 n ≡ t → eqb (pick a 4 (pick t 5 0)) 0 ≡ true → n < 8
-own-room true t n is told = absurd (false≢true told)
-own-room false true n is told = absurd (false≢true told)
-own-room false false n is told = leb-false 8 n is
+-- a frame that is queued is told that it went over another exactly if eight wait
+own-room : (t full : Bool) (id : ℕ) (extended : Bool) → let what = pick t A4 (pick full (QueuedOver id extended) Queued) in
+    isQueued what ≡ true → full ≡ eqb (reasonOf what) 6
+unfolding isQueued arrivalValues
+own-room true full id extended queued = absurd (false≢true queued)
+own-room false true id extended queued = refl
+own-room false false id extended queued = refl
 
-bus-room : (a b c : Bool) (n : ℕ) → eqb (pick a 1 (pick b 2 (pick c 3 n))) 0 ≡ true → eqb n 0 ≡ true
-bus-room true b c n told = absurd (false≢true told)
-bus-room false true c n told = absurd (false≢true told)
-bus-room false false true n told = absurd (false≢true told)
-bus-room false false false n told = told
+bus-room : (full a b c : Bool) (what : Arrival) → (isQueued what ≡ true → full ≡ eqb (reasonOf what) 6)
+    → let told = pick a A1 (pick b A2 (pick c A3 what)) in isQueued told ≡ true → full ≡ eqb (reasonOf told) 6
+unfolding isQueued
+bus-room full true b c what room queued = absurd (false≢true queued)
+bus-room full false true c what room queued = absurd (false≢true queued)
+bus-room full false false true what room queued = absurd (false≢true queued)
+bus-room full false false false what room queued = room queued
 
 -- a frame of our own reaches the temporary buffer
-own-reaches : (t full : Bool) → reachesTemporary (pick t A4 (pick full A5 Queued)) ≡ true
+own-reaches : (t full : Bool) (id : ℕ) (extended : Bool) → reachesTemporary (pick t A4 (pick full (QueuedOver id extended) Queued)) ≡ true
 unfolding reachesTemporary
-own-reaches true full = refl
-own-reaches false true = refl
-own-reaches false false = refl
+own-reaches true full id extended = refl
+own-reaches false true id extended = refl
+own-reaches false false id extended = refl
 
 module _ (d : Device) (r : Records) (h : Kept d r) where
+  -- ---- the filters, and the message that is lost
+
   pub matching-same : (header : Header) (payload : List ℕ) → possible header ≡ true → matching d header payload ≡ matchingBy (r .settings) header payload
   unfolding matching
   matching-same header payload ok =
       rw (bank-patterns (d .filters) (h .1 .0 .0), bank-patterns (d .masks) (h .1 .1 .0), compared-same header payload ok, hits-alike (patterns (d .filters)) (patterns (d .masks)) (compared header payload))
       (ap (λ (s : Settings). matchingBy s header payload) (h .0))
 
+  abbrev l : Ledger
+  l = r .ledger
+
+  waits : left l ≡ d .rx .count
+  waits = left-waits (d .rx) l (h .3 .2)
+
+  -- with eight waiting, the one that is named is the last that was accepted
+  over-named : d .rx .count ≡ 8 → arrivalValues (overLatestOf (d .rx)) ≡ overLatest (newest l)
+  unfolding overLatestOf arrivalValues
+  over-named eight =
+      let lost = newest l in
+      ap (λ (g : Header). 6 ∷ g .id ∷ flag (g .extended) ∷ [])
+      (ap (λ (m : Message). headerIn (m .bytes)) (sym (newest-latest (d .rx) l (h .3 .2) eight))
+      ∙ header-back (lost .header) (lost .payload) (lost .time) (filhitOf (lost .hits)) (shown-possible lost (newest-shown (d .rx) l (h .3 .2) eight)))
+
   -- a frame that comes
-  module _ (b : Brought) (comes : b .comes ≡ true) (ok : possible (b .header) ≡ true) where
+  module _ (few : d .rx .count ≤ 8) (b : Brought) (comes : b .comes ≡ true) (ok : possible (b .header) ≡ true) where
     abbrev f : Frame
     f = arriving r (b .header) (b .payload)
 
@@ -166,12 +195,11 @@ module _ (d : Device) (r : Records) (h : Kept d r) where
 
     -- ---- what it is told
 
-    by-filters : reasonOf (filtersAndRoom d set) ≡ firstTrue (reasons (filtonBit (r .settings)) (r .ledger) f [])
+    by-filters : arrivalValues (filtersAndRoom d set) ≡ toldBy l (firstTrue (reasons (filtonBit (r .settings)) f []))
     unfolding filtersAndRoom
     by-filters =
-        by-match (filton d && eqb set 0) (full (d .rx))
-        ∙ rw (hits-same, left-waits (d .rx) (r .ledger) (h .3 .2))
-        (ap (λ (s : Settings). pick (filtonBit s && eqb (f .hits) 0) 4 (pick (full (d .rx)) 5 0)) (h .0))
+        by-match l (filton d && eqb set 0) (full (d .rx)) (overLatestOf (d .rx)) (rw waits) (λ full. over-named (omega (arith, few, leb-true 8 (d .rx .count) full)))
+        ∙ rw hits-same (ap (λ (s : Settings). toldBy l (pick (filtonBit s && eqb (f .hits) 0) 4 0)) (h .0))
 
     -- what becomes of a frame from the bus
     abbrev ofTheBus : Arrival
@@ -187,62 +215,63 @@ module _ (d : Device) (r : Records) (h : Kept d r) where
     unfolding reason
     bus-reason bus = ap (λ (t : Bool). pick t (filtersAndRoom d set) ofTheBus) bus
 
-    pub own-due : b .own ≡ true → reasonOf (reason d b set) ≡ firstTrue (reasons (filtonBit (r .settings)) (r .ledger) f [])
-    own-due own = ap reasonOf (own-reason own) ∙ by-filters
+    pub own-due : b .own ≡ true → arrivalValues (reason d b set) ≡ toldBy l (firstTrue (reasons (filtonBit (r .settings)) f []))
+    own-due own = ap arrivalValues (own-reason own) ∙ by-filters
 
     pub bus-due : b .own ≡ false
-        → reasonOf (reason d b set)
-        ≡ firstTrue (reasons (filtonBit (r .settings)) (r .ledger) f (fromTheBus (r .settings .acting) (r .counters .busoff) (b .acknowledged)))
+        → arrivalValues (reason d b set)
+        ≡ toldBy l (firstTrue (reasons (filtonBit (r .settings)) f (fromTheBus (r .settings .acting) (r .counters .busoff) (b .acknowledged))))
     unfolding takesNoFrames quietMode unacknowledged
     bus-due bus =
-        ap reasonOf (bus-reason bus)
-        ∙ by-bus (takesNoFrames (d .acting)) (d .counters .busoff) (unacknowledged (d .acting) (b .acknowledged)) (filtersAndRoom d set)
-        ∙ rw (by-filters, h .2 .0, ap (λ (s : Settings). s .acting) (h .0))
+        ap arrivalValues (bus-reason bus)
+        ∙ by-bus l (takesNoFrames (d .acting)) (d .counters .busoff) (unacknowledged (d .acting) (b .acknowledged)) (filtersAndRoom d set)
+        (firstTrue (reasons (filtonBit (r .settings)) f [])) by-filters
+        ∙ rw (h .2 .0, ap (λ (s : Settings). s .acting) (h .0))
 
-    -- ---- and if that is Queued there was room
+    -- ---- and if it is queued, that goes by the room
 
-    filters-find : isQueued (filtersAndRoom d set) ≡ true → d .rx .count < 8
-    filters-find queued =
-        rw (← left-waits (d .rx) (r .ledger) (h .3 .2))
-        (own-room (filtonBit (r .settings) && eqb (f .hits) 0) (leb 8 (left (r .ledger))) (left (r .ledger)) refl
-        (rw (queued-same (filtersAndRoom d set), by-filters) at queued))
+    filters-find : isQueued (filtersAndRoom d set) ≡ true → full (d .rx) ≡ eqb (reasonOf (filtersAndRoom d set)) 6
+    unfolding filtersAndRoom overLatestOf
+    filters-find =
+        let lost = headerIn (latest (d .rx) .bytes) in
+        own-room (filton d && eqb set 0) (full (d .rx)) (lost .id) (lost .extended)
 
-    finds′ : (own : Bool) → b .own ≡ own → isQueued (reason d b set) ≡ true → d .rx .count < 8
-    finds′ true own queued = filters-find (sym (ap isQueued (own-reason own)) ∙ queued)
-    finds′ false bus queued =
-        let taken = takesNoFrames (d .acting) in
-        let heard-it = unacknowledged (d .acting) (b .acknowledged) in
-        filters-find (rw (queued-same (filtersAndRoom d set))
-        (bus-room taken (d .counters .busoff) heard-it (reasonOf (filtersAndRoom d set))
-        (rw (queued-same ofTheBus, by-bus taken (d .counters .busoff) heard-it (filtersAndRoom d set)) at (sym (ap isQueued (bus-reason bus)) ∙ queued))))
+    finds′ : (own : Bool) → b .own ≡ own → isQueued (reason d b set) ≡ true → full (d .rx) ≡ eqb (reasonOf (reason d b set)) 6
+    finds′ true own = rw (own-reason own) filters-find
+    finds′ false bus =
+        rw (bus-reason bus)
+        (bus-room (full (d .rx)) (takesNoFrames (d .acting)) (d .counters .busoff) (unacknowledged (d .acting) (b .acknowledged)) (filtersAndRoom d set) filters-find)
 
-    pub finds : isQueued (reason d b set) ≡ true → d .rx .count < 8
+    pub finds : isQueued (reason d b set) ≡ true → full (d .rx) ≡ eqb (reasonOf (reason d b set)) 6
     finds = finds′ (b .own) refl
 
     -- one of our own is taken in any case
     pub own-taken : b .own ≡ true → arrival d b set (reason d b set) ≡ transmitted (arrived d b set (reason d b set))
-    unfolding arrival taken filtersAndRoom
+    unfolding arrival taken filtersAndRoom overLatestOf
     own-taken own =
         let arrives = arrived d b set (reason d b set) in
+        let lost = headerIn (latest (d .rx) .bytes) in
         ap₂ (λ (t o : Bool). pick t (pick o (transmitted arrives) (heard arrives)) (busActivity d))
-        (ap reachesTemporary (own-reason own) ∙ own-reaches (filton d && eqb set 0) (full (d .rx)))
+        (ap reachesTemporary (own-reason own) ∙ own-reaches (filton d && eqb set 0) (full (d .rx)) (lost .id) (lost .extended))
         own
 
     -- ---- the device and the records after it
 
-    module _ (what : Arrival) (room : isQueued what ≡ true → d .rx .count < 8) where
+    module _ (what : Arrival) (room : isQueued what ≡ true → full (d .rx) ≡ eqb (reasonOf what) 6) where
       arrival-flags : bitOr (bitOr (bitOr (d .regs .intf) rxtmp) (queuedFlag (isQueued what))) (filterFlag set)
           ≡ together (arrivalMet r f (reasonOf what) .flags)
       unfolding queuedFlag
       arrival-flags =
           filter-flags (bitOr (bitOr (d .regs .intf) rxtmp) (queuedFlag (isQueued what))) set
-          ∙ rw (hits-same, filhit-same (f .hits), queued-same what, h .2 .3) (sym (flags-risen (reasonOf what) (filhitOf (f .hits)) (r .flags)))
+          ∙ rw (hits-same, filhit-same (f .hits), queued-same what, h .2 .3) (sym (flags-risen (joins (reasonOf what)) (filhitOf (f .hits)) (r .flags)))
 
-      arrival-queue : HoldsLedger (queueAfter (d .rx) (message f) (eqb (reasonOf what) 0)) (pick (eqb (reasonOf what) 0) (accepts (r .ledger) f) (r .ledger))
-      arrival-queue =
-          queue-after (d .rx) (r .ledger) (h .3 .2) (eqb (reasonOf what) 0) f
-          (λ told. room (rw (queued-same what) told))
-          (λ told. shows-fields f ok)
+      queue-cases : (t : Bool) → isQueued what ≡ t → HoldsLedger (pick t (putOver (d .rx) (message f)) (d .rx)) (pick t (accepts l f (eqb (reasonOf what) 6)) l)
+      queue-cases true queued = accepts-holds (d .rx) l (h .3 .2) f (eqb (reasonOf what) 6) (room queued) few (shows-fields f ok)
+      queue-cases false out = h .3 .2
+
+      arrival-queue : HoldsLedger (queueAfter (d .rx) (message f) (joins (reasonOf what))) (entered l f (reasonOf what))
+      unfolding queueAfter
+      arrival-queue = queue-cases (joins (reasonOf what)) (queued-same what)
 
       pub arrival-kept : Kept (arrived d b set what) (arrivalMet r f (reasonOf what))
       unfolding arrived raised

@@ -1,10 +1,10 @@
--- Each wrong device of `specs/Wrong` and `WrongRegisters`, and each wrong way to ask and to explain of `WrongQuestions`
--- and `WrongExplanations`, by the promise that it breaks, and on what. Assumes nothing.
+-- Each wrong device of `specs/Wrong`, `WrongLosses` and `WrongRegisters`, and each wrong way to ask and to explain of
+-- `WrongQuestions` and `WrongExplanations`, by the promise that it breaks, and on what. Assumes nothing.
 use mathlib.Core.Path.{refl}
 use mathlib.Core.Bool.{Bool, true, false}
 use mathlib.Core.List.{List, [], _∷_, _++_, map}
 use Prim.Native.Nat.{ℕ}
-use lib.ListN.{replicate}
+use lib.ListN.{drop, replicate}
 use Rattle.chip.specs.declared.Device.{Device}
 use Rattle.chip.specs.Parts.{with-counters}
 use Rattle.chip.specs.State.{fresh}
@@ -21,8 +21,9 @@ use Rattle.promise.specs.Explanations.{Explainer}
 use Rattle.promise.specs.Ranges.{deviceInRange}
 use Rattle.promise.specs.Records.{Records, start, with-counters as with-counted}
 use Rattle.promise.specs.Settings.{modeNamed}
-use Rattle.promise.specs.Wrong.{onlyFirst, leisurely, roomFirst, reasonsExchanged, boasts, deniesDone, believesAll, takesTwo, shortTakes, codeClipped}
+use Rattle.promise.specs.Wrong.{onlyFirst, queuesInSilence, roomFirst, reasonsExchanged, boasts, deniesDone, believesAll, takesTwo, shortTakes, codeClipped}
 use Rattle.promise.specs.Wrong.{keepsBehind, resetKeeps, modeClears, strangersUnseen, oldCompletion, nothingCopied}
+use Rattle.promise.specs.WrongLosses.{overOldest, dropsNew, shifts, overSeventh, leisurely, namesNew, overInSilence}
 use Rattle.promise.specs.WrongRegisters.{commandsExchanged, filterElsewhere, sleepsAtOnce, modeStays, borElsewhere, tx1mKept, filtonIgnored}
 use Rattle.promise.specs.WrongRegisters.{errsExchanged, errCleared, intfKept, intByStatfe, showsAnother, hitAtRead, repliesZeros, blind, groupsAlways}
 use Rattle.promise.specs.WrongRegisters.{highestShown, bothRaised}
@@ -41,6 +42,8 @@ pub data Case : Type 0 where
   unraised : Machine → List Input → Case
   unwritten : Machine → List Input → Case
   unlike : Machine → List Input → Case
+  -- a loss that isn't told, one that is told where there is none, or one told of another frame
+  untold : Machine → List Input → Input → Case
   -- a way to look at the pins
   misshown : (Device → Pins) → List Input → Case
   -- the first frame that the ledger then has
@@ -70,6 +73,17 @@ scanHeader = record { id = 0x123; extended = false; remote = false; code = 1 }
 
 abbrev pub scan : ℕ → Input
 scan byte = wire (GoodFrame scanHeader true 1) (byte ∷ replicate 7 0)
+
+-- eight of them
+abbrev pub eightScans : List Input
+eightScans = map scan (1 ∷ 2 ∷ 3 ∷ 4 ∷ 5 ∷ 6 ∷ 7 ∷ 8 ∷ [])
+
+abbrev pub full : List Input
+full = toNormal ∷ eightScans
+
+-- an extended one, which another scanner sends
+abbrev pub pallet : Input
+pallet = wire (GoodFrame (record { id = 0x1ABCDEF; extended = true; remote = false; code = 0 }) true 0) (replicate 8 0)
 
 abbrev pub behind : Input
 behind = wire (GoodFrame scanHeader true 1) (1 ∷ replicate 7 0xAA)
@@ -119,7 +133,7 @@ unnamedSet = spi (0x62 ∷ 0x24 ∷ 0x60 ∷ 0x00 ∷ 0x01 ∷ 0x00 ∷ 0x00 ∷
 
 -- eight scans, then filters on
 abbrev pub strangers : List Input
-strangers = noneMatches ++ map scan (1 ∷ 2 ∷ 3 ∷ 4 ∷ 5 ∷ 6 ∷ 7 ∷ 8 ∷ []) ++ filtersOn ∷ []
+strangers = noneMatches ++ eightScans ++ filtersOn ∷ []
 
 -- filter 0 made to miss, a scan without filters, then filters on: filter 1 would match now
 abbrev pub filtersLater : List Input
@@ -191,7 +205,21 @@ cases =
     lost codeClipped (toNormal ∷ long ∷ []) ∷
     lost keepsBehind (toNormal ∷ behind ∷ []) ∷
     lost commandsExchanged (two ++ spi (0x58 ∷ []) [] ∷ []) ∷
-    undue leisurely (toNormal ∷ wire (Ticks 1) [] ∷ []) (scan 1) ∷
+    lost overOldest (full ++ pallet ∷ []) ∷
+    untold overOldest full pallet ∷
+    lost dropsNew (full ++ pallet ∷ []) ∷
+    untold dropsNew full pallet ∷
+    lost shifts (full ++ pallet ∷ []) ∷
+    untold shifts full pallet ∷
+    undue namesNew full pallet ∷
+    untold namesNew full pallet ∷
+    undue overSeventh (toNormal ∷ drop 1 eightScans) pallet ∷
+    untold overSeventh (toNormal ∷ drop 1 eightScans) pallet ∷
+    undue overInSilence full pallet ∷
+    untold overInSilence full pallet ∷
+    unlike overInSilence (full ++ pallet ∷ []) ∷
+    undue leisurely (toNormal ∷ scan 1 ∷ wire (Ticks 1) [] ∷ []) pallet ∷
+    untold leisurely (toNormal ∷ scan 1 ∷ wire (Ticks 1) [] ∷ []) pallet ∷
     undue roomFirst strangers (scan 9) ∷
     undue reasonsExchanged [] (scan 1) ∷
     undue showsAnother two read ∷
@@ -216,7 +244,8 @@ cases =
     unraised filtonIgnored (toNormal ∷ scan 1 ∷ []) ∷
     unwritten oldCompletion completedAlone ∷
     unwritten nothingCopied begun ∷
-    unlike leisurely (toNormal ∷ wire (Ticks 1) [] ∷ scan 1 ∷ []) ∷
+    unlike leisurely (toNormal ∷ scan 1 ∷ wire (Ticks 1) [] ∷ pallet ∷ []) ∷
+    unlike queuesInSilence (toNormal ∷ scan 1 ∷ []) ∷
     misshown intByStatfe (spi (0x1C ∷ 0x40 ∷ []) [] ∷ toNormal ∷ scan 1 ∷ []) ∷
     unlikeItself believesAll (toNormal ∷ impossible ∷ []) ∷
     misjudged refusesAll fresh (ask 0xD2) ∷

@@ -27,7 +27,7 @@ use Rattle.judged.specs.Judged.{impossible, reason, said, brings}
 use Rattle.changed.specs.Changed.{errBit, countedFrame, heard, taken, reachesTemporary, countedReceiveError, receiveErrorMet, dominantMet, countedTransmitError}
 use Rattle.changed.specs.Changed.{transmitErrorMet, recessiveMet, ticked, pinSet, arrival, after}
 use Rattle.promise.proofs.Choices.{pick-under}
-use Rattle.promise.proofs.Ranges.{InRange, put-fits, take-fits}
+use Rattle.promise.proofs.Ranges.{InRange, put-fits, over-fits, take-fits}
 use Rattle.promise.proofs.Fits.{Grouped, woken, errs-more, tag-fits, some-wait}
 use Rattle.promise.proofs.CommandsFit.{reset-in, stopped-in}
 use Rattle.promise.proofs.Steps.{saidOf, outcomeOf}
@@ -41,7 +41,7 @@ module _ (d : Device) (h : InRange d) where
   arrived-in : (b : Brought) (set : ℕ) (what : Arrival) → InRange (arrived d b set what)
   unfolding arrived raised queueAfter
   arrived-in b set what = (
-    pick-under (λ q. inRange q ≡ true) (isQueued what) _ _ (λ queued. put-fits (d .rx) _ (h .0)) (λ refused. h .0),
+    pick-under (λ q. inRange q ≡ true) (isQueued what) _ _ (λ queued. over-fits (d .rx) _ (h .0)) (λ refused. h .0),
     h .1,
     h .2,
     h .3,

@@ -1,13 +1,12 @@
 -- Each event that is done keeps the device to the records, and says what is due. Assumes nothing.
 use mathlib.Core.Path.{_≡_, refl, sym, _∙_, ap, subst}
 use mathlib.Core.Bool.{Bool, true, false, not, _&&_, false≢true}
-use mathlib.Core.List.{List, [], _∷_}
-use Prim.Native.Nat.{ℕ}
+use mathlib.Core.List.{List, []}
+use Prim.Native.Nat.{ℕ, _≤_}
 use native.Mathlib.Omega.{arith}
 use borrow.Author.Tests.{not-true, not-false}
 use lib.Bits.{bitOr}
 use lib.Dec.{eqb}
-use Rattle.base.specs.Bit.{byte}
 use Rattle.base.specs.Pick.{pick}
 use Rattle.base.proofs.Booleans.{and-left, and-right}
 use Rattle.counters.specs.Rules.{receiveError, dominantBit, transmitError, completed, elevenRecessive}
@@ -31,7 +30,7 @@ use Rattle.judged.specs.declared.Answer.the-variants.{Arrived, Done}
 use Rattle.judged.specs.Judged.{runs, impossibleFrame, impossible, reason, said, busFrame, nothing as nobody, brings}
 use Rattle.changed.specs.Changed.{errBit, countedReceiveError, receiveErrorMet, dominantMet, countedTransmitError, transmitErrorMet}
 use Rattle.changed.specs.Changed.{recessiveMet, ticked, pinSet, arrival, after}
-use Rattle.bus.specs.Event.{reasonOf, valuesOf, outcome}
+use Rattle.bus.specs.Event.{arrivalValues, valuesOf, outcome}
 use Rattle.promise.specs.Counting.{groupMet}
 use Rattle.promise.specs.Flags.{txcplt, kindBit}
 use Rattle.promise.specs.Frames.{Frame}
@@ -40,9 +39,10 @@ use Rattle.promise.specs.Arrivals.{arriving, own, frame, nothing, dueOf,
 use Rattle.promise.specs.Noted.{begunMet, completedMet, arrivalMet, happened}
 use Rattle.promise.specs.Own.{Own}
 use Rattle.promise.specs.Records.{Records}
+use Rattle.promise.specs.Sequence.{fate}
 use Rattle.promise.specs.Settings.{Settings, settingsOf, with-ctrl1, withoutTx1m, with-pin, osm, bor as borBit}
 use Rattle.promise.proofs.Steps.{saidOf, outcomeOf}
-use Rattle.promise.proofs.Arrivals.{bus-due, own-due, finds, own-taken, arrival-kept, frame-kept}
+use Rattle.promise.proofs.Arrivals.{reasonOf, bus-due, own-due, finds, own-taken, arrival-kept, frame-kept}
 use Rattle.promise.proofs.Boxes.{rests-same, buffer-runs, halted-boxed, begun-boxed, transmitted-boxed}
 use Rattle.promise.proofs.Fits.{some-wait}
 use Rattle.promise.proofs.Kept.{Kept}
@@ -89,7 +89,7 @@ module _ (d : Device) (r : Records) (h : Kept d r) where
 
 -- ---- what an event says, and leaves
 
-module _ (d : Device) (r : Records) (h : Kept d r) where
+module _ (d : Device) (r : Records) (h : Kept d r) (few : d .rx .count ≤ 8) where
   runs-some : runs d ≡ true → rests (r .outbox .running) ≡ false
   unfolding runs
   runs-some is = not-true (rests (r .outbox .running)) (rw (rests-same _ _ _ _ _ _ (h .4)) at is)
@@ -125,28 +125,28 @@ module _ (d : Device) (r : Records) (h : Kept d r) where
     its-own = refl
 
     module _ (comes : b .comes ≡ true) where
-      own-says : reasonOf told ∷ [] ≡ dueOf r (frame (own r) [])
-      own-says = ap (λ n. n ∷ []) (own-due d r h b comes own-possible its-own) ∙ ap (λ (f : Frame). dueOf r (frame f [])) own-same
+      own-says : arrivalValues told ≡ dueOf r (frame (own r) [])
+      own-says = own-due d r h few b comes own-possible its-own ∙ ap (λ (f : Frame). dueOf r (frame f [])) own-same
 
       own-kept : Kept (arrival d b (hits d b) told) (completedMet (arrivalMet r (own r) (reasonOf told)))
       own-kept =
-          rw (own-taken d r h b comes own-possible its-own)
+          rw (own-taken d r h few b comes own-possible its-own)
           (subst (λ (f : Frame). Kept (transmitted (arrived d b (hits d b) told)) (completedMet (arrivalMet r f (reasonOf told)))) own-same
           (transmitted-kept (arrived d b (hits d b) told) (arrivalMet r (arriving r (b .header) (b .payload)) (reasonOf told))
-          (arrival-kept d r h b comes own-possible told (finds d r h b comes own-possible)) some))
+          (arrival-kept d r h few b comes own-possible told (finds d r h few b comes own-possible)) some))
 
     -- by whether it comes, as the device and as the records have it
     abbrev Agreeing : Bool → Bool → Type 0
     Agreeing t u =
         Kept
         (outcome d Completed b (hits d b) (pick t (Arrived told) Done) .device)
-        (completedMet (pick u (arrivalMet r (own r) (byte (dueOf r (pick u (frame (own r) []) nothing)) 1)) r))
+        (completedMet (pick u (arrivalMet r (own r) (fate (dueOf r (pick u (frame (own r) []) nothing)))) r))
         × (valuesOf (outcome d Completed b (hits d b) (pick t (Arrived told) Done) .answer) ≡ dueOf r (pick u (frame (own r) []) nothing))
 
     by-mode : (t : Bool) → b .comes ≡ t → Agreeing t t
     unfolding after valuesOf
     by-mode true comes = (
-      subst (λ (n : ℕ). Kept (arrival d b (hits d b) told) (completedMet (arrivalMet r (own r) n))) (ap (λ values. byte values 1) (own-says comes)) (own-kept comes),
+      subst (λ (n : ℕ). Kept (arrival d b (hits d b) told) (completedMet (arrivalMet r (own r) n))) (ap fate (own-says comes)) (own-kept comes),
       own-says comes,
     )
     by-mode false none = (transmitted-kept d r h some, refl)
@@ -165,7 +165,7 @@ module _ (d : Device) (r : Records) (h : Kept d r) where
   -- the device keeps to the records, and the answer has the values that are due
   abbrev Agrees : Event → List ℕ → Answer → Type 0
   Agrees e payload a =
-      Kept (outcomeOf d e payload a .device) (happened r e payload (byte (valuesDue r e payload) 1))
+      Kept (outcomeOf d e payload a .device) (happened r e payload (fate (valuesDue r e payload)))
       × (valuesOf (outcomeOf d e payload a .answer) ≡ valuesDue r e payload)
 
   pub event-agrees : (e : Event) (payload : List ℕ) → impossible d e ≡ false → Agrees e payload (saidOf d e payload)
@@ -174,9 +174,9 @@ module _ (d : Device) (r : Records) (h : Kept d r) where
   event-agrees (GoodFrame header acknowledged count) payload can =
       let b : Brought = busFrame header acknowledged payload in
       let ok = and-left (possible header) _ (not-false (possible header && dataFits header count) can) in
-      let due = bus-due d r h b refl ok refl in (
-        rw (← due) (frame-kept d r h b refl ok (reason d b (hits d b)) (finds d r h b refl ok) refl),
-        ap (λ n. n ∷ []) due,
+      let due = bus-due d r h few b refl ok refl in (
+        rw (← due) (frame-kept d r h few b refl ok (reason d b (hits d b)) (finds d r h few b refl ok) refl),
+        due,
       )
   event-agrees (ReceiveError kind) payload can = (
     (

@@ -10,9 +10,10 @@ use lib.ListN.{getD, replicate, List·getD-map}
 use Rattle.base.specs.Pick.{pick}
 use Rattle.base.proofs.Booleans.{and-left, and-right}
 use Rattle.base.proofs.Lists.{table-at}
-use Rattle.fifo.specs.Queue.{full}
+use Rattle.fifo.specs.Queue.{full, latest}
 use Rattle.frame.specs.declared.Header.{Header}
 use Rattle.frame.specs.Length.{possible, dataFits}
+use Rattle.frame.specs.Received.{headerIn}
 use Rattle.frame.specs.Tables.{compared as comparedBy}
 use Rattle.filter.specs.Hits.{matchesAt, hits as hitsOf}
 use Rattle.filter.proofs.Sets.{set-none}
@@ -20,9 +21,9 @@ use Rattle.chip.specs.declared.Device.{Device}
 use Rattle.chip.specs.declared.Pattern.{Pattern}
 use Rattle.chip.specs.Proper.{proper}
 use Rattle.chip.specs.State.{absent, bank, filton}
-use Rattle.receive.specs.declared.Arrival.the-variants.{Queued, A1, A2, A3, A4, A5}
+use Rattle.receive.specs.declared.Arrival.the-variants.{Queued, QueuedOver, A1, A2, A3, A4}
 use Rattle.receive.specs.declared.Brought.{Brought}
-use Rattle.receive.specs.Receive.{matching, hits, filtersAndRoom}
+use Rattle.receive.specs.Receive.{matching, hits, overLatest, filtersAndRoom}
 use Rattle.judged.specs.declared.Answer.{Answer}
 use Rattle.judged.specs.declared.Answer.the-variants.{Refused, Done, Arrived}
 use Rattle.judged.specs.Judged.{impossibleFrame, impossible, takesNoFrames, unacknowledged, reason, said, busFrame, brings}
@@ -54,25 +55,26 @@ a4-alone true true s e = absurd (false≢true e)
 a4-alone true false s e = (refl, e)
 a4-alone false i s e = absurd (false≢true e)
 
-for-the-filters : (a b c f room : Bool) → isA4 (pick a A1 (pick b A2 (pick c A3 (pick f A4 (pick room A5 Queued))))) ≡ true → f ≡ true
+for-the-filters : (a b c f full : Bool) (id : ℕ) (extended : Bool)
+    → isA4 (pick a A1 (pick b A2 (pick c A3 (pick f A4 (pick full (QueuedOver id extended) Queued))))) ≡ true → f ≡ true
 unfolding isA4
-for-the-filters true b c f room e = absurd (false≢true e)
-for-the-filters false true c f room e = absurd (false≢true e)
-for-the-filters false false true f room e = absurd (false≢true e)
-for-the-filters false false false true room e = refl
-for-the-filters false false false false true e = absurd (false≢true e)
-for-the-filters false false false false false e = absurd (false≢true e)
+for-the-filters true b c f full id extended e = absurd (false≢true e)
+for-the-filters false true c f full id extended e = absurd (false≢true e)
+for-the-filters false false true f full id extended e = absurd (false≢true e)
+for-the-filters false false false true full id extended e = refl
+for-the-filters false false false false true id extended e = absurd (false≢true e)
+for-the-filters false false false false false id extended e = absurd (false≢true e)
 
 pub is-a4 : (a : Answer) → noFilter a ≡ true → a ≡ Arrived A4
 unfolding noFilter isA4
 is-a4 (Refused n) e = absurd (false≢true e)
 is-a4 Done e = absurd (false≢true e)
 is-a4 (Arrived Queued) e = absurd (false≢true e)
+is-a4 (Arrived (QueuedOver id extended)) e = absurd (false≢true e)
 is-a4 (Arrived A1) e = absurd (false≢true e)
 is-a4 (Arrived A2) e = absurd (false≢true e)
 is-a4 (Arrived A3) e = absurd (false≢true e)
 is-a4 (Arrived A4) e = refl
-is-a4 (Arrived A5) e = absurd (false≢true e)
 
 pub a4-is : (a : Answer) → a ≡ Arrived A4 → noFilter a ≡ true
 unfolding noFilter isA4
@@ -99,10 +101,11 @@ module _ (d : Device) (h : Header) (acknowledged : Bool) (count : ℕ) (payload 
     can = and-left (possible h) (dataFits h count) (not-false (possible h && dataFits h count) (parts .0))
 
     empty-handed : (filton d && eqb (hits d brought) 0) ≡ true
-    unfolding said reason busFrame filtersAndRoom noFilter
+    unfolding said reason busFrame filtersAndRoom overLatest noFilter
     empty-handed =
+        let lost = headerIn (latest (d .rx) .bytes) in
         for-the-filters (takesNoFrames (d .acting)) (d .counters .busoff) (unacknowledged (d .acting) acknowledged)
-        (filton d && eqb (hits d brought) 0) (full (d .rx)) (parts .1)
+        (filton d && eqb (hits d brought) 0) (full (d .rx)) (lost .id) (lost .extended) (parts .1)
 
     none : matching d h payload ≡ 0
     unfolding hits busFrame

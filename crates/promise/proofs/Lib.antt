@@ -9,6 +9,7 @@ pub mod Fits
 pub mod CommandsFit
 pub mod EventsFit
 pub mod Each
+pub mod Ledgers
 pub mod Queues
 pub mod Shown
 pub mod Matching
@@ -27,6 +28,7 @@ pub mod Replies
 pub mod Questions
 pub mod Places
 pub mod Explanations
+pub mod Losses
 pub mod After
 pub mod Worked
 pub mod Cases

@@ -67,7 +67,7 @@ told s = length (values (s .given))
 
 differ : (told (shipped fresh tick) ≡ 0) × (told (boasts fresh tick) ≡ 1)
 unfolding State.fresh Proper.proper Proper.registersInRange Proper.sendingInRange Proper.actingInRange State.modeOf Queue.empty Queue.inRange
-    Judged.impossible Judged.said Judged.nothing Judged.brings Event.answered Event.answer Event.event Event.valuesOf Event.reasonOf
+    Judged.impossible Judged.said Judged.nothing Judged.brings Event.answered Event.answer Event.event Event.valuesOf Event.arrivalValues
 differ = (refl, refl)
 
 pub not-the-code : IsTheCode boasts pins hits explained fresh → ⊥

@@ -10,7 +10,7 @@ use Rattle.base.specs.Pick.{pick, among}
 use Rattle.base.proofs.Booleans.{and-left, and-right, pick-under}
 use Rattle.fifo.specs.declared.Fifo.{Fifo}
 use Rattle.fifo.specs.declared.Message.{Message}
-use Rattle.fifo.specs.Queue.{empty, full, isEmpty, put, take, inRange}
+use Rattle.fifo.specs.Queue.{empty, full, isEmpty, put, putOver, take, inRange}
 use Rattle.chip.specs.declared.Device.{Device}
 use Rattle.chip.specs.Proper.{registersInRange, sendingFits, sendingInRange, actingFits, actingInRange, proper}
 use Rattle.chip.specs.State.{modeOf, normal, loopback, monitor, sleep, initialization}
@@ -116,7 +116,7 @@ first-below : (q : Fifo) → inRange q ≡ true → q .first < 8
 unfolding inRange
 first-below q e = ltb-true (q .first) 8 (and-left (ltb (q .first) 8) (leb (q .count) 8) e)
 
-count-below : (q : Fifo) → inRange q ≡ true → q .count ≤ 8
+pub count-below : (q : Fifo) → inRange q ≡ true → q .count ≤ 8
 unfolding inRange
 count-below q e = leb-true (q .count) 8 (and-right (ltb (q .first) 8) (leb (q .count) 8) e)
 
@@ -126,6 +126,13 @@ put-fits q m h =
     pick-under (λ (r : Fifo). inRange r ≡ true) (full q) _ _
     (λ none. h)
     (λ room. fits _ (first-below q h) (omega (arith, leb-false 8 (q .count) room)))
+
+pub over-fits : (q : Fifo) (m : Message) → inRange q ≡ true → inRange (putOver q m) ≡ true
+unfolding putOver
+over-fits q m h =
+    pick-under (λ (r : Fifo). inRange r ≡ true) (full q) _ _
+    (λ none. fits _ (first-below q h) (count-below q h))
+    (λ room. put-fits q m h)
 
 pub take-fits : (q : Fifo) → inRange q ≡ true → inRange (take q) ≡ true
 unfolding take

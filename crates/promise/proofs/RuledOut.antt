@@ -2,12 +2,14 @@
 use mathlib.Core.Path.{_≡_, refl, sym, _∙_, ap}
 use mathlib.Core.Bool.{Bool, true, false, not, _&&_, _||_, false≢true}
 use mathlib.Core.List.{List, [], _∷_, _++_, map}
+use mathlib.Core.Logic.{inl, inr}
 use Prim.Native.Nat.{ℕ}
 use native.Mathlib.Omega.{arith}
 use borrow.Author.Tests.{eq-eqb, ne-eqb, eqb-false}
 use lib.Dec.{eqb}
-use lib.ListN.{length, replicate, getD}
+use lib.ListN.{length, replicate, getD, set}
 use Rattle.fifo.specs.declared.Message.{Message}
+use Rattle.fifo.specs.Queue.{waiting}
 use Rattle.frame.specs.Received.{received}
 use Rattle.frame.specs.Tables.{idBits, idAsRead}
 use Rattle.base.specs.Bit.{bit, byte}
@@ -24,24 +26,28 @@ use Rattle.bus.specs.Hits.{hits}
 use Rattle.bus.specs.Pins.{pins}
 use Rattle.chip.specs.declared.Device.{Device}
 use Rattle.chip.specs.State.{fresh}
-use Rattle.promise.specs.Sequence.{Input, spi, wire, Given, replied, answered, Step, shipped, number, run}
+use Rattle.promise.specs.Sequence.{Input, spi, wire, Given, replied, answered, Step, shipped, number, values, run}
 use Rattle.promise.specs.Frames.{Frame, blank, message, identifierRead}
 use Rattle.promise.specs.Numbers.{Fits, Answered, First, Refused, Untouched, numberGiven}
 use Rattle.promise.specs.Outbox.{Running, none, first, alone}
 use Rattle.promise.specs.Due.{Due}
 use Rattle.promise.specs.Held.{Each, Runs, Settled, Counted, Timed, Seen, Raised, Pinned, Whole, AsArrived, AsWritten}
-use Rattle.promise.specs.After.{recorded, After, Answers, Same, Onward}
+use Rattle.promise.specs.After.{recorded, After, Answers, LosesAsTold, Same, Onward}
+use Rattle.promise.specs.Arrivals.{overLatest}
+use Rattle.promise.specs.Ledger.{frames, newest}
+use Rattle.promise.specs.Losses.{saysOver, NoneReplaced, LossTold}
+use Rattle.promise.specs.Noted.{noted, byTheRules}
 use Rattle.promise.specs.Questions.{InEveryDevice, Told}
 use Rattle.promise.specs.Explanations.{TheDevices, countsAt, before, IsFirst, noPlace, EachHasOne, Pointed}
 use Rattle.promise.specs.Filters.{compared}
 use Rattle.promise.specs.Settings.{patterns}
 use Rattle.promise.specs.Records.{Records}
 use Rattle.promise.specs.Own.{ownMessage}
-use Rattle.promise.proofs.Cases.{Case, lost, undue, unsettled, miscounted, mistimed, unseen, unraised, unwritten, unlike, misshown, unlikeItself}
+use Rattle.promise.proofs.Cases.{Case, lost, undue, unsettled, miscounted, mistimed, unseen, unraised, unwritten, unlike, untold, misshown, unlikeItself}
 use Rattle.promise.proofs.Cases.{misjudged, misanswered, changing, mistold, misasked, misled, mispointed, astray, cases}
 use Rattle.promise.proofs.Explanations.{is-a4, a4-is}
 use Rattle.promise.proofs.Queues.{Shown}
-use Rattle.promise.proofs.Sides.{alike, alike-self, shownHits, allBytes, counts, settingBytes, levels, numbers, numbersDue, refusal, buffered, runningBytes, pointedAt, sides, differ}
+use Rattle.promise.proofs.Sides.{alike, alike-self, counted, lostSince, shownHits, allBytes, counts, settingBytes, levels, numbers, numbersDue, refusal, buffered, runningBytes, pointedAt, sides, differ}
 
 -- the promise that a case breaks
 abbrev pub Promise : Case → Type 0
@@ -54,6 +60,7 @@ Promise (unseen w is) = After w Seen
 Promise (unraised w is) = After w Raised
 Promise (unwritten w is) = After w AsWritten
 Promise (unlike w is) = Same w
+Promise (untold w is i) = After w (LosesAsTold w)
 Promise (misshown look is) = After shipped (Pinned look)
 Promise (unlikeItself w is) = After w AsArrived
 Promise (misjudged w d i) = First w
@@ -81,6 +88,17 @@ first-shown : (fs : List Frame) → Each Shown fs
 unfolding received idAsRead idBits
 first-shown [] all = refl
 first-shown (f ∷ fs) all = all .0 .identifier
+
+-- a loss that is told is of the eighth, and where none is told there is none
+none-lost : (r after : Records) → NoneReplaced r after → lostSince r after ≡ 0
+none-lost r after (inl same) = rw same (omega arith)
+none-lost r after (inr cleared) = rw cleared (omega arith)
+
+loss-sides : (d : Device) (r : Records) (s : Step) (after : Records) (t : Bool) → saysOver (s .given) ≡ t → LossTold d r s after
+    → pick t (length (waiting (d .rx)) ∷ values (s .given) ++ allBytes (waiting (s .device .rx))) (lostSince r after ∷ [])
+    ≡ pick t (8 ∷ overLatest (newest (r .ledger)) ++ allBytes (set (waiting (d .rx)) 7 (message (after .latest)))) (0 ∷ [])
+loss-sides d r s after true over told = rw (told .0 over .eight, told .0 over .named, told .0 over .stands)
+loss-sides d r s after false other told = ap (λ n. n ∷ []) (none-lost r after (told .1 other))
 
 -- an answer is a refusal exactly if its number is not 0
 fits-refusal : (i : Input) (given : Given) → Fits i given → refusal given ≡ flag (not (eqb (number given) 0))
@@ -135,9 +153,13 @@ equal (unwritten w is) holds =
     rw (holds is .0)
     (ap (λ l. allBytes (map ownMessage (recorded w is .outbox .queue)) ++ l)
     (runs-bytes (run w fresh is .sending) (run w fresh is .buffer) (recorded w is .outbox .running) (holds is .1)))
-equal (unlike w is) holds = ap (λ (r : Records). length (r .ledger .accepted) ∷ []) (holds is)
+equal (unlike w is) holds = ap counted (holds is)
+equal (untold w is i) holds =
+    let d = run w fresh is in
+    let r = recorded w is in
+    loss-sides d r (w d i) (noted byTheRules r i (w d i .given)) (saysOver (w d i .given)) refl (holds is i)
 equal (misshown look is) holds = ap levels (holds is)
-equal (unlikeItself w is) holds = first-shown (recorded w is .ledger .accepted) (holds is .1)
+equal (unlikeItself w is) holds = first-shown (frames (recorded w is .ledger)) (holds is .1)
 equal (misjudged w d i) holds = ap (λ n. n ∷ []) (holds d i)
 equal (misanswered w d i) holds = ap (λ n. n ∷ []) (fits-refusal i (w d i .given) (holds d i .1))
 equal (changing w d i) holds = ap (λ n. n ∷ []) (left-count (eqb (numberGiven w d i) 0) d i (w d i) refl (holds d i))

@@ -5,7 +5,7 @@ use mathlib.Core.List.{List, [], _∷_, _++_, map}
 use Prim.Native.Nat.{ℕ, zero, suc, pred, _+_, _*_, _/_, _%_, _^_, _<_, _≤_, min}
 use native.Mathlib.Nat.{add-zero, div-one, mod-eq-of-lt}
 use native.Mathlib.Omega.{arith}
-use borrow.Author.Tests.{leb-true, leb-false}
+use borrow.Author.Tests.{lt-ltb, le-leb, leb-true, leb-false}
 use lib.Dec.{leb, ltb}
 use lib.ListN.{getD}
 use lib.Seq.{getD-drop}
@@ -20,7 +20,7 @@ use Rattle.frame.proofs.Parts.{id-fits, code-fits}
 use Rattle.frame.proofs.ReadBack.{data-back}
 use Rattle.promise.specs.Filters.{compared}
 use Rattle.promise.specs.Hits.{filhitOf}
-use Rattle.promise.specs.Frames.{Frame, blank, message, dataCount, canArrive, dataByte, identifierIn, Shows}
+use Rattle.promise.specs.Frames.{Frame, blank, message, dataCount, canArrive, dataByte, identifierIn, identifierRead, Shows}
 
 -- ---- how many data bytes a frame has, and whether it can arrive
 
@@ -97,6 +97,19 @@ shows-fields f ok =
       code = mod-eq-of-lt (omega (arith, code-fits h ok));
       bytes = data-shown h (f .payload) (f .time) (filhitOf (f .hits));
     }
+
+-- and only such a frame does: its first byte has no room for more
+id-below : (h : Header) (t : Bool) (first : ℕ) → h .extended ≡ t → first < 256 → first ≡ byte (identifierRead h) 1 → h .id < pick t (2 ^ 29) (2 ^ 11)
+id-below h true first is small same = omega (arith, rw is at same)
+id-below h false first is small same = omega (arith, rw is at same)
+
+pub shown-possible : (f : Frame) → Shows f (message f .bytes) → possible (f .header) ≡ true
+unfolding possible received idAsRead
+shown-possible f shows =
+    let h = f .header in
+    let first : bits 28 21 (idBits h) ≡ byte (identifierRead h) 1 = ap (λ (bytes : List ℕ). byte bytes 1) (shows .identifier) in
+    let below : h .id < pick (h .extended) (2 ^ 29) (2 ^ 11) = id-below h (h .extended) (bits 28 21 (idBits h)) refl (omega arith) first in
+    rw (lt-ltb _ _ below, le-leb (h .code) 15 (omega (arith, shows .code)))
 
 pub blank-shown : Shows blank (message blank .bytes)
 unfolding possible

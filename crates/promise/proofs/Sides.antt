@@ -2,10 +2,10 @@
 use mathlib.Core.Path.{_≡_, refl}
 use mathlib.Core.Bool.{Bool, true, false, not, _&&_, _||_}
 use mathlib.Core.List.{List, [], _∷_, _++_, map}
-use Prim.Native.Nat.{ℕ, _%_}
+use Prim.Native.Nat.{ℕ, _-_, _%_}
 use borrow.Author.Tests.{eq-eqb}
 use lib.Dec.{eqb}
-use lib.ListN.{length, replicate, getD}
+use lib.ListN.{length, replicate, getD, set}
 use Rattle.base.specs.Bit.{bit, byte}
 use Rattle.base.specs.Pick.{pick, flag}
 use Rattle.counters.specs.declared.Counters.{Counters}
@@ -59,8 +59,10 @@ use Rattle.promise.specs.Own.{ownMessage}
 use Rattle.promise.specs.Due.{situationOf, filled}
 use Rattle.promise.specs.After.{recorded}
 use Rattle.promise.specs.Noted
-use Rattle.promise.specs.Arrivals.{valuesDue}
-use Rattle.promise.specs.Noted.{recordsBy, byTheAnswers}
+use Rattle.promise.specs.Arrivals.{overLatest, valuesDue}
+use Rattle.promise.specs.Ledger.{frames, kept, replaced, newest}
+use Rattle.promise.specs.Losses.{saysOver}
+use Rattle.promise.specs.Noted.{noted, recordsBy, byTheRules, byTheAnswers}
 use Rattle.promise.specs.Records.{Records}
 use Rattle.promise.specs.Registers
 use Rattle.promise.specs.Registers.{shown, pinsShown}
@@ -69,7 +71,7 @@ use Rattle.promise.specs.Settings.{Settings, settingsOf, patterns}
 use Rattle.bus.specs.declared.types.Hits.{Hits as HitsGiven}
 use Rattle.promise.specs.Arrivals.{matching}
 use Rattle.promise.specs.Questions.{refused, unlessImpossible}
-use Rattle.promise.proofs.Cases.{Case, lost, undue, unsettled, miscounted, mistimed, unseen, unraised, unwritten, unlike, misshown, unlikeItself}
+use Rattle.promise.proofs.Cases.{Case, lost, undue, unsettled, miscounted, mistimed, unseen, unraised, unwritten, unlike, untold, misshown, unlikeItself}
 use Rattle.promise.specs.Explanations.{countsAt, before, noPlace}
 use Rattle.promise.proofs.Cases.{misjudged, misanswered, changing, mistold, misasked, misled, mispointed, astray, cases}
 
@@ -151,11 +153,19 @@ pointedAt frame filter mask at p =
     flag (not (before (at .0) (at .1) p && countsAt mask (at .0) (at .1)) || eqb (bit (at .1) (byte frame (at .0))) (bit (at .1) (byte filter (at .0)))) ∷
     []
 
+-- how many the ledger has, and how many it leaves out
+abbrev pub counted : Records → List ℕ
+counted r = length (r .ledger .accepted) ∷ length (replaced (r .ledger)) ∷ []
+
+-- how many more it leaves out, none after a clearing
+abbrev pub lostSince : Records → Records → ℕ
+lostSince r after = length (replaced (after .ledger)) - length (replaced (r .ledger))
+
 -- what the device comes to, and what its promise says
 abbrev pub sides : Case → List ℕ × List ℕ
 sides (lost w is) = (
   allBytes (map message (recorded w is .ledger .taken) ++ waiting (run w fresh is .rx)),
-  allBytes (map message (recorded w is .ledger .accepted)),
+  allBytes (map message (kept (recorded w is .ledger))),
 )
 sides (undue w is i) = (numbers i (w (run w fresh is) i .given), numbersDue (recorded w is) i)
 sides (unsettled w is) = (settingBytes (settingsOf (run w fresh is)), settingBytes (recorded w is .settings))
@@ -167,14 +177,22 @@ sides (unwritten w is) = (
   allBytes (waiting (run w fresh is .tx)) ++ buffered (run w fresh is .buffer) (recorded w is .outbox .running),
   allBytes (map ownMessage (recorded w is .outbox .queue)) ++ runningBytes (recorded w is .outbox .running),
 )
-sides (unlike w is) = (
-  length (recordsBy byTheAnswers (conversation w fresh is) .ledger .accepted) ∷ [],
-  length (recorded w is .ledger .accepted) ∷ [],
-)
+sides (unlike w is) = (counted (recordsBy byTheAnswers (conversation w fresh is)), counted (recorded w is))
+sides (untold w is i) =
+    let r = recorded w is in
+    let given : Given = w (run w fresh is) i .given in
+    let after = noted byTheRules r i given in (
+      pick (saysOver given)
+          (length (waiting (run w fresh is .rx)) ∷ values given ++ allBytes (waiting (w (run w fresh is) i .device .rx)))
+          (lostSince r after ∷ []),
+      pick (saysOver given)
+          (8 ∷ overLatest (newest (r .ledger)) ++ allBytes (set (waiting (run w fresh is .rx)) 7 (message (after .latest))))
+          (0 ∷ []),
+    )
 sides (misshown look is) = (levels (look (run shipped fresh is)), levels (pinsShown (recorded shipped is)))
 sides (unlikeItself w is) = (
-  map (byte (message (getD (recorded w is .ledger .accepted) 0 blank) .bytes)) (4 ∷ 5 ∷ 6 ∷ 7 ∷ []),
-  identifierRead ((getD (recorded w is .ledger .accepted) 0 blank) .header),
+  map (byte (message (getD (frames (recorded w is .ledger)) 0 blank) .bytes)) (4 ∷ 5 ∷ 6 ∷ 7 ∷ []),
+  identifierRead ((getD (frames (recorded w is .ledger)) 0 blank) .header),
 )
 sides (misjudged w d i) = (numberGiven w d i ∷ [], numberDue (situation d) i ∷ [])
 sides (misanswered w d i) = (refusal (w d i .given) ∷ [], flag (not (eqb (number (w d i .given)) 0)) ∷ [])
@@ -202,17 +220,17 @@ sides (astray w d r holds i) = (numbers i (w d i .given), numbersDue r i)
 pub differ : map (λ c. alike (sides c .0) (sides c .1)) cases ≡ replicate (length cases) false
 unfolding Transfer.transfer Transfer.replyAfter Refused.lengthFits Refused.setsUp Refused.outsideSetUp Refused.findsFull Refused.readsMessage
     Refused.findsNone Refused.refusal Refused.rowJudged Refused.verdict Proper.registersInRange Proper.sendingInRange Proper.actingInRange
-    Proper.proper State.modeOf State.fresh State.enabled State.bank Queue.empty Queue.put Queue.take Queue.next Queue.inRange Table.rows
+    Proper.proper State.modeOf State.fresh State.enabled State.bank Queue.empty Queue.put Queue.putOver Queue.latest Queue.take Queue.next Queue.inRange Table.rows
     ToSend.headerToSend ToSend.rightLength ToSend.messageOf ToSend.stored Done.pattern Done.registersAfter Done.registerChanged Done.messageTaken
     Done.entryTaken Done.receiveCleared Done.timeReset Done.messageWritten Done.filterWritten Done.maskWritten Done.recWritten Done.tecWritten
     Done.does Modes.modeChanged Modes.ctrl0Written Modes.canSleep Modes.busQuiet Modes.busActivity Flags.raised Flags.busError Reset.reset Receive.matching
-    Receive.hits Receive.ownFrame Receive.filtersAndRoom Receive.isQueued Receive.queuedFlag Receive.filterFlag Receive.queueAfter
+    Receive.hits Receive.ownFrame Receive.overLatest Receive.filtersAndRoom Receive.isQueued Receive.queuedFlag Receive.filterFlag Receive.queueAfter
     Receive.arrived FilterHits.hits FilterHits.filhit Match.matches Length.dataLength Length.dataBytes Length.possible Length.dataFits Length.dataOf
     Ranges.deviceInRange Filters.hitsOf Hits.filhitOf Received.received Received.headerIn Tables.idBits Tables.idToSend Tables.idAsRead Tables.compared Judged.quietMode Judged.noErrors Judged.runs
     Judged.impossibleFrame Judged.impossible Judged.takesNoFrames Judged.unacknowledged Judged.reason Judged.said Judged.busFrame Judged.nothing Judged.brings Changed.errBit
     Changed.countedFrame Changed.heard Changed.taken Changed.reachesTemporary Changed.countedReceiveError Changed.receiveErrorMet Changed.dominantMet
     Changed.countedTransmitError Changed.transmitErrorMet Changed.recessiveMet Changed.ticked Changed.pinSet Changed.arrival Changed.after
-    Event.numberOf Event.reasonOf Event.valuesOf Event.answered Event.answer Event.event BusHits.hits Why.firstPlace Why.places Why.isA4 Why.noFilter Why.explained First.firstDifference Rules.receiveError Rules.dominantBit Rules.goodFrame Rules.transmitError
+    Event.numberOf Event.arrivalValues Event.valuesOf Event.answered Event.answer Event.event BusHits.hits Why.firstPlace Why.places Why.isA4 Why.noFilter Why.explained First.firstDifference Rules.receiveError Rules.dominantBit Rules.goodFrame Rules.transmitError
     Rules.completed Rules.elevenRecessive Rules.testRec Rules.testTec Transmit.sends Transmit.canBegin Transmit.withoutTx1m Transmit.ctrl1Begun
     Transmit.begun Transmit.stopped Transmit.aborted Transmit.leftAlone Transmit.cleared Transmit.stamped Transmit.fifoAfter
     Transmit.countedCompletion Transmit.transmitted Shown.cut Shown.register Shown.shows

@@ -7,6 +7,7 @@ use Rattle.bus.specs.declared.types.Pins.{Pins}
 use Rattle.promise.specs.Sequence.{Input, Machine, run, conversation}
 use Rattle.promise.specs.Due.{Due}
 use Rattle.promise.specs.Held.{Pinned, Holds}
+use Rattle.promise.specs.Losses.{LossTold}
 use Rattle.promise.specs.Noted.{noted, byTheRules, byTheAnswers, recordsBy, records}
 use Rattle.promise.specs.Questions.{Question, Told}
 use Rattle.promise.specs.Records.{Records}
@@ -27,14 +28,18 @@ module _ (step : Machine) where
   abbrev pub Answers : Device → Records → Type 0
   Answers d r = (i : Input) → Due r i (step d i .given)
 
+  -- Whatever comes next, a frame is replaced exactly if that is told.
+  abbrev pub LosesAsTold : Device → Records → Type 0
+  LosesAsTold d r = (i : Input) → LossTold d r (step d i) (noted byTheRules r i (step d i .given))
+
   -- Whoever goes by what was answered writes down the same.
   abbrev pub Same : Type 0
   Same = (is : List Input) → recordsBy byTheAnswers (conversation step fresh is) ≡ recorded is
 
   -- In any device that holds what some records have, the pins show them, an input gets the answer that it is due, the
-  -- device after it holds what they then have, and the filters are told as they stand in them.
+  -- device after it holds what they then have, what is lost is told, and the filters are told as they stand in them.
   abbrev pub Onward : (Device → Pins) → Question → Type 0
   Onward look ask = (d : Device) (r : Records) → Holds d r
       → Pinned look d r × Answers d r
       × ((i : Input) → Holds (step d i .device) (noted byTheRules r i (step d i .given)))
-      × Told ask d r
+      × LosesAsTold d r × Told ask d r

@@ -4,7 +4,7 @@ use mathlib.Core.Bool.{Bool, not, _&&_, _||_}
 use mathlib.Core.List.{List, [], _∷_, _++_}
 use Prim.Native.Nat.{ℕ, _%_}
 use lib.Dec.{eqb, leb}
-use Rattle.base.specs.Pick.{pick}
+use Rattle.base.specs.Pick.{pick, flag}
 use Rattle.frame.specs.declared.Header.{Header}
 use Rattle.events.specs.declared.Event.{Event}
 use Rattle.events.specs.declared.Event.the-variants.{GoodFrame, ReceiveError, DominantBit, TransmitError, Begun}
@@ -12,7 +12,7 @@ use Rattle.events.specs.declared.Event.the-variants.{Completed, ArbitrationLost
 use Rattle.events.specs.declared.Event.the-variants.{Ticks, TxenPin, MrPin, Unknown}
 use Rattle.promise.specs.Filters.{compared, hitsOf}
 use Rattle.promise.specs.Frames.{Frame}
-use Rattle.promise.specs.Ledger.{Ledger, left}
+use Rattle.promise.specs.Ledger.{Ledger, left, newest}
 use Rattle.promise.specs.Outbox.{inFlight}
 use Rattle.promise.specs.Records.{Records}
 use Rattle.promise.specs.Settings.{loopback, monitor, sleep, initialization, Settings, filton}
@@ -47,7 +47,7 @@ own r = let m = inFlight (r .outbox .running) in arriving r (m .header) (m .eigh
 abbrev pub Reason : Type 0
 Reason = Bool × ℕ
 
--- 0 is Queued
+-- 0 if none does
 abbrev pub firstTrue : List Reason → ℕ
 firstTrue [] = 0
 firstTrue (r ∷ rs) = pick (r .0) (r .1) (firstTrue rs)
@@ -61,9 +61,20 @@ fromTheBus acting busoff acknowledged =
     (eqb acting monitor && not acknowledged, 3) ∷
     []
 
--- "A4 filtering is on and no filter matches; A5 eight messages wait": room is counted here
-abbrev pub reasons : Bool → Ledger → Frame → List Reason → List Reason
-reasons filton l f earlier = earlier ++ (filton && eqb (f .hits) 0, 4) ∷ (leb 8 (left l), 5) ∷ []
+-- "A4 filtering is on and no filter matches"
+abbrev pub reasons : Bool → Frame → List Reason → List Reason
+reasons filton f earlier = earlier ++ (filton && eqb (f .hits) 0, 4) ∷ []
+
+-- ---- a frame that no reason keeps out
+
+-- 02, d): "the event answers Queued-over-latest" and "names the identifier that was lost": 6, then the identifier, then
+-- 0 or 1 for standard or extended
+abbrev pub overLatest : Frame → List ℕ
+overLatest lost = 6 ∷ lost .header .id ∷ flag (lost .header .extended) ∷ []
+
+-- Queued, or over the latest where "eight messages wait": room is counted here
+abbrev pub queuedOrOver : Ledger → List ℕ
+queuedOrOver l = pick (leb 8 (left l)) (overLatest (newest l)) (0 ∷ [])
 
 -- ---- what an event brings, and what it is told
 
@@ -90,9 +101,13 @@ brings r (TxenPin level) payload = nothing
 brings r MrPin payload = nothing
 brings r Unknown payload = nothing
 
--- what an event has to say beside its number: 0 for Queued, or the first reason that holds
+-- what a frame has to be told: the first reason that holds, if one does
+abbrev pub toldBy : Ledger → ℕ → List ℕ
+toldBy l reason = pick (eqb reason 0) (queuedOrOver l) (reason ∷ [])
+
+-- what an event has to say beside its number
 abbrev pub dueOf : Records → Brings → List ℕ
-dueOf r (frame f earlier) = firstTrue (reasons (filton (r .settings)) (r .ledger) f earlier) ∷ []
+dueOf r (frame f earlier) = toldBy (r .ledger) (firstTrue (reasons (filton (r .settings)) f earlier))
 dueOf r nothing = []
 
 abbrev pub valuesDue : Records → Event → List ℕ → List ℕ

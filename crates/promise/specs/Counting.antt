@@ -28,7 +28,7 @@ atZero = record { rec = 0; tec = 0; busoff = false; groups = 0 }
 abbrev pub recUp : Counters → ℕ → Counters
 recUp c n = rec-to c (min (c .rec + n) 255)
 
--- "Good frame in normal mode, answered Queued, A4 or A5: REC - 1, not below 0; from 128 up it becomes 119"
+-- "Good frame in normal mode, answered Queued, A4 …: REC - 1, not below 0; from 128 up it becomes 119"
 abbrev pub recDown : Counters → Counters
 recDown c = rec-to c (pick (ltb (c .rec) 128) (c .rec - 1) 119)
 

@@ -13,6 +13,7 @@ use Rattle.chip.specs.State as State
 use Rattle.bus.specs.declared.types.Pins.{Pins}
 use Rattle.promise.specs.Flags.{together}
 use Rattle.promise.specs.Frames.{message, Shows}
+use Rattle.promise.specs.Ledger.{frames, kept}
 use Rattle.promise.specs.Outbox.{Running, none, first, alone, inFlight}
 use Rattle.promise.specs.Own.{ownMessage, Sendable}
 use Rattle.promise.specs.Ranges.{deviceInRange}
@@ -50,14 +51,14 @@ Pinned look d r = look d ≡ pinsShown r
 -- ---- demand 3
 
 -- The messages that reads took, then those still waiting, are exactly the good frames that 01 accepts since the last
--- clearing.
+-- clearing, but for those whose place a later one took.
 abbrev pub Whole : Device → Records → Type 0
-Whole d r = map message (r .ledger .taken) ++ waiting (d .rx) ≡ map message (r .ledger .accepted)
+Whole d r = map message (r .ledger .taken) ++ waiting (d .rx) ≡ map message (kept (r .ledger))
 
--- Each is kept with its fields as they arrived, and so is the latest, accepted or not. It is said of the messages
--- that the promise above finds in the device.
+-- The message of each accepted frame, replaced or not, has its fields as they arrived, and so has that of the latest,
+-- accepted or not. The promise above finds those that are kept in the device.
 abbrev pub AsArrived : Device → Records → Type 0
-AsArrived d r = Each (λ f. Shows f (message f .bytes)) (r .latest ∷ r .ledger .accepted)
+AsArrived d r = Each (λ f. Shows f (message f .bytes)) (r .latest ∷ frames (r .ledger))
 
 -- the message that runs: whether one does and where it stands, and the transmit buffer, which holds it
 abbrev pub Runs : ℕ → Message → Running → Type 0

@@ -19,11 +19,13 @@ pub mod Ranges
 pub mod Numbers
 pub mod Due
 pub mod Held
+pub mod Losses
 pub mod Questions
 pub mod Explanations
 pub mod After
 pub mod Worked
 pub mod Wrong
+pub mod WrongLosses
 pub mod WrongRegisters
 pub mod WrongQuestions
 pub mod WrongExplanations

@@ -1,5 +1,5 @@
 -- What is written down of each input, from the input and what was given for it, by 01's sentences and bytes.
-use mathlib.Core.Bool.{Bool, true, false, _&&_}
+use mathlib.Core.Bool.{Bool, true, false, _&&_, _||_}
 use mathlib.Core.List.{List, [], _∷_, _++_, map, foldl}
 use Prim.Native.Nat.{ℕ, _+_}
 use lib.Dec.{eqb}
@@ -13,7 +13,7 @@ use Rattle.events.specs.declared.Event.the-variants.{GoodFrame, ReceiveError, D
 use Rattle.events.specs.declared.Event.the-variants.{Completed, ArbitrationLost, ElevenRecessive, BusQuiet, BusActivity}
 use Rattle.events.specs.declared.Event.the-variants.{Ticks, TxenPin, MrPin, Unknown}
 use Rattle.promise.specs.Arrivals.{time, arriving, own, valuesDue}
-use Rattle.promise.specs.Sequence.{Input, spi, wire, Given, Exchange, values, done}
+use Rattle.promise.specs.Sequence.{Input, spi, wire, Given, Exchange, values, fate, done}
 use Rattle.promise.specs.Commands.{messageReads, sameFor}
 use Rattle.promise.specs.Frames.{Frame, blank}
 use Rattle.promise.specs.Hits.{filhitOf}
@@ -24,7 +24,7 @@ use Rattle.promise.specs.Settings.{withoutTx1m, with-pin, settingWrites,
 use Rattle.promise.specs.Counting.{recUp, frameHeard, tecUp, tecDown, unlessMonitor, groupMet, recWritten}
 use Rattle.promise.specs.Counting.{tecWritten}
 use Rattle.promise.specs.Flags.{rxtmp, rxfifo, txcplt, buserr, mchg, wakeupFlag, f1mess, f0mess, kindBit, raise}
-use Rattle.promise.specs.Ledger.{emptyLedger, accepts, takes}
+use Rattle.promise.specs.Ledger.{Ledger, emptyLedger, accepts, takes}
 use Rattle.promise.specs.Own.{messageIn}
 use Rattle.promise.specs.Outbox.{emptied, queued, begun, halted, clearedOut, transmitted, entryTaken, rests}
 
@@ -73,18 +73,25 @@ activityMet r =
 
 -- ---- frames
 
--- "A1 to A3 leave the temporary buffer alone. A4, A5 and Queued put the frame there."
+-- "A1 to A3 leave the temporary buffer alone. A4 … and Queued put the frame there."
 abbrev pub reaches : ℕ → Bool
 reaches told = among told ((1, false) ∷ (2, false) ∷ (3, false) ∷ []) true
+
+-- Queued, or Queued-over-latest, which is "elsewhere counted as Queued" (02, d))
+abbrev pub joins : ℕ → Bool
+joins told = eqb told 0 || eqb told 6
+
+abbrev pub entered : Ledger → Frame → ℕ → Ledger
+entered l f told = pick (joins told) (accepts l f (eqb told 6)) l
 
 -- A frame that reaches the temporary buffer, by what it is told. RXTMP rises, RXFIFO if it is queued, F0MESS or
 -- F1MESS if filter 0 or 1 is the lowest match.
 abbrev pub arrivalMet : Records → Frame → ℕ → Records
 arrivalMet r f told =
     with-flags
-    (with-ledger (with-latest r f) (pick (eqb told 0) (accepts (r .ledger) f) (r .ledger)))
+    (with-ledger (with-latest r f) (entered (r .ledger) f told))
     (raise (eqb (filhitOf (f .hits)) 0b1001) f1mess
-    (raise (eqb (filhitOf (f .hits)) 0b1000) f0mess (raise (eqb told 0) rxfifo (rxtmp ∷ r .flags))))
+    (raise (eqb (filhitOf (f .hits)) 0b1000) f0mess (raise (joins told) rxfifo (rxtmp ∷ r .flags))))
 
 -- one from the bus; one that isn't taken is bus activity
 abbrev pub frameMet : Records → Frame → ℕ → Records
@@ -167,10 +174,10 @@ abbrev pub Told : Type 0
 Told = Records → Event → List ℕ → Given → ℕ
 
 abbrev pub byTheRules : Told
-byTheRules r e payload given = byte (valuesDue r e payload) 1
+byTheRules r e payload given = fate (valuesDue r e payload)
 
 abbrev pub byTheAnswers : Told
-byTheAnswers r e payload given = byte (values given) 1
+byTheAnswers r e payload given = fate (values given)
 
 -- what was refused is not written down
 abbrev pub noted : Told → Records → Input → Given → Records

@@ -10,7 +10,7 @@ use Rattle.promise.specs.Numbers.{Answered, First, Exactly, Refused, Nev
 use Rattle.promise.specs.Held.{Settled, Counted, Timed, Seen, Raised, Pinned, Whole, AsArrived, AsWritten}
 use Rattle.promise.specs.Questions.{InEveryDevice, Told}
 use Rattle.promise.specs.Explanations.{TheDevices, Pointed}
-use Rattle.promise.specs.After.{After, Answers, Same, Onward}
+use Rattle.promise.specs.After.{After, Answers, LosesAsTold, Same, Onward}
 use Rattle.promise.specs.Worked.{Worked}
 
 -- ---- what they speak of (Calls)
@@ -51,7 +51,7 @@ TheReasonIsTheDevices = TheDevices shipped explained
 abbrev pub EachPlaceIsTheFirst : Type 0
 EachPlaceIsTheFirst = Pointed explained
 
--- ---- demands 2 and 3, over every sequence (Due, Held, After)
+-- ---- demands 2 and 3, over every sequence (Due, Held, Losses, After)
 
 abbrev pub EachAnswerIsDue : Type 0
 EachAnswerIsDue = After shipped (Answers shipped)
@@ -74,8 +74,11 @@ IntfIsTheFlagsRaised = After shipped Raised
 abbrev pub PinsShowTheRecords : Type 0
 PinsShowTheRecords = After shipped (Pinned pins)
 
-abbrev pub NoFrameIsLost : Type 0
-NoFrameIsLost = After shipped Whole
+abbrev pub OnlyTheReplacedAreLost : Type 0
+OnlyTheReplacedAreLost = After shipped Whole
+
+abbrev pub EachLossIsTold : Type 0
+EachLossIsTold = After shipped (LosesAsTold shipped)
 
 abbrev pub FieldsStandAsTheyArrived : Type 0
 FieldsStandAsTheyArrived = After shipped AsArrived

@@ -4,7 +4,7 @@ use mathlib.Core.Bool.{Bool}
 use mathlib.Core.List.{List, [], _∷_}
 use Prim.Native.Nat.{ℕ}
 use lib.Dec.{eqb}
-use lib.ListN.{length}
+use lib.ListN.{length, getD}
 use Rattle.chip.specs.declared.Device.{Device}
 use Rattle.events.specs.declared.Event.{Event}
 use Rattle.judged.specs.declared.Answer.{Answer}
@@ -46,10 +46,14 @@ abbrev pub number : Given → ℕ
 number (replied n buffer) = n
 number (answered a) = numberOf a
 
--- and what an event says beside it: 0 for Queued, 1 to 5 for A1 to A5
+-- and what an event says beside it: 0 for Queued, 1 to 4 for A1 to A4; for Queued-over-latest 6 and what was lost
 abbrev pub values : Given → List ℕ
 values (replied n buffer) = []
 values (answered a) = valuesOf a
+
+-- Of these the first, which says what became of the frame; 7, which no frame is told, where there is none.
+abbrev pub fate : List ℕ → ℕ
+fate values = getD values 0 7
 
 -- an input that was not refused
 abbrev pub done : Given → Bool

@@ -4,7 +4,7 @@ use mathlib.Core.Bool.{Bool, not, _&&_, _||_}
 use mathlib.Core.List.{List, [], _∷_, _++_, map}
 use Prim.Native.Nat.{ℕ, _+_, _-_, _%_, min}
 use lib.Dec.{eqb, ltb}
-use lib.ListN.{length, getD, set, drop, take as firstOf}
+use lib.ListN.{getD, set, drop, take as firstOf}
 use Rattle.base.specs.Bit.{byte, isSet}
 use Rattle.base.specs.Pick.{pick, among}
 use Rattle.fifo.specs.declared.Fifo.{Fifo}
@@ -15,11 +15,12 @@ use Rattle.chip.specs.declared.Registers.{Registers}
 use Rattle.chip.specs.State.{loopback, idle, firstInFifo, alone}
 use Rattle.chip.specs.Parts.{with-rx, with-tx, with-temp, with-buffer, with-regs, with-intf}
 use Rattle.receive.specs.declared.Arrival.{Arrival}
-use Rattle.receive.specs.declared.Arrival.the-variants.{Queued, A1, A2, A3, A4, A5}
+use Rattle.receive.specs.declared.Arrival.the-variants.{Queued, QueuedOver, A1, A2, A3, A4}
+use Rattle.receive.specs.Receive.{overLatest}
 use Rattle.judged.specs.declared.Answer.the-variants.{Refused, Done, Arrived}
 use Rattle.host.specs.Transfer.{replyAfter}
 use Rattle.promise.specs.Sequence.{Input, spi, wire, Given, replied, answered, Step, Machine, shipped, number}
-use Rattle.promise.specs.Sequence.{values, done}
+use Rattle.promise.specs.Sequence.{values, fate, done}
 use Rattle.promise.specs.Commands.{messageReads, oneOf}
 use Rattle.promise.specs.Settings.{asksReset}
 
@@ -69,7 +70,7 @@ replying commands draw d (wire e payload) = shipped d (wire e payload)
 
 -- an arrival was told, and it was n
 abbrev pub tells : ℕ → Given → Bool
-tells n given = eqb (length (values given)) 1 && eqb (byte (values given) 1) n
+tells n given = eqb (fate (values given)) n
 
 -- a message was sent: TXCPLT rises
 abbrev pub completes : Device → Input → Bool
@@ -91,28 +92,18 @@ takenFor pairs (c ∷ bytes) = among c pairs c ∷ bytes
 abbrev pub onlyFirst : Machine
 onlyFirst = but (λ d i s. pick (tells 0 (s .given) && not (isEmpty (d .rx))) (with-queue s (d .rx)) s)
 
--- 01: "one that answers A5 at leisure": whenever the time tag is odd, as if eight were waiting
-abbrev pub crowded : Device → Device
-crowded d = with-rx d (record { items = d .rx .items; first = d .rx .first; count = 8 })
-
-abbrev pub leisurely : Machine
-leisurely =
-    but (λ d i s.
-    let told : Step = shipped (crowded d) i in
-    pick (isSet 0 (d .time) && tells 0 (s .given)) (with-queue told (d .rx)) s)
-
--- 01: "The room test is made before the filters, so a stranger's frame is answered A5."
+-- 01: "The room test is made before the filters", so that a stranger's frame is told Queued-over-latest
 abbrev pub roomFirst : Machine
-roomFirst = but (λ d i s. pick (full (d .rx) && tells 4 (s .given)) (with-given s (answered (Arrived A5))) s)
+roomFirst = but (λ d i s. pick (full (d .rx) && tells 4 (s .given)) (with-given s (answered (Arrived (overLatest (d .rx))))) s)
 
 -- A1 for A2 and A2 for A1
 abbrev pub exchangedReason : Arrival → Arrival
 exchangedReason A1 = A2
 exchangedReason A2 = A1
 exchangedReason Queued = Queued
+exchangedReason (QueuedOver id extended) = QueuedOver id extended
 exchangedReason A3 = A3
 exchangedReason A4 = A4
-exchangedReason A5 = A5
 
 abbrev pub retold : (Arrival → Arrival) → Given → Given
 retold tell (replied n buffer) = replied n buffer
@@ -132,6 +123,16 @@ boast (answered (Arrived what)) = answered (Arrived what)
 
 abbrev pub boasts : Machine
 boasts = but (λ d i s. with-given s (boast (s .given)))
+
+-- one that queues a frame and says nothing of it
+abbrev pub hushed : Given → Given
+hushed (replied n buffer) = replied n buffer
+hushed (answered (Refused n)) = answered (Refused n)
+hushed (answered Done) = answered Done
+hushed (answered (Arrived what)) = answered Done
+
+abbrev pub queuesInSilence : Machine
+queuesInSilence = but (λ d i s. pick (tells 0 (s .given)) (with-given s (hushed (s .given))) s)
 
 -- one that answers as refused what it has done, with 0
 abbrev pub denial : Given → Given
@@ -183,7 +184,10 @@ abbrev pub keepsBehind : Machine
 keepsBehind d (spi bytes buffer) = shipped d (spi bytes buffer)
 keepsBehind d (wire e payload) =
     let s : Step = shipped d (wire e payload) in
-    pick (tells 0 (s .given) && not (eqb (d .acting) loopback)) (with-queue s (behindIn (s .device .rx) payload)) s
+    pick ((tells 0 (s .given) || tells 6 (s .given)) && not (eqb (d .acting) loopback))
+    (with-queue s (behindIn (s .device .rx) payload)) s
+
+-- ---- what clears it
 
 -- a host's reset that keeps the queue, and a write of another mode that clears it
 abbrev pub resetKeeps : Machine
@@ -191,6 +195,8 @@ resetKeeps = butTransfers (λ d bytes s. pick (resetDone bytes s) (with-queue s 
 
 abbrev pub modeClears : Machine
 modeClears = butTransfers (λ d bytes s. pick (eqb (d .acting) (s .device .acting)) s (with-queue s empty))
+
+-- ---- the temporary buffer
 
 -- 01: "A filtered-off frame doesn't reach 0x42."
 abbrev pub strangersUnseen : Machine

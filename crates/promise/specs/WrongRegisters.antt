@@ -80,7 +80,7 @@ filtering d = with-regs d (with-ctrl1 (d .regs) (bitOr (d .regs .ctrl1) 0x10))
 abbrev pub filtonIgnored : Machine
 filtonIgnored =
     but (λ d i s.
-    pick (tells 0 (s .given) || tells 5 (s .given))
+    pick (tells 0 (s .given) || tells 6 (s .given))
     (with-registers s
     (with-intf (s .device .regs) (bitOr (s .device .regs .intf) (shipped (filtering d) i .device .regs .intf % 4))))
     s)

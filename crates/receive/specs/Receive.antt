@@ -8,7 +8,7 @@ use Rattle.base.specs.Bit.{isSet}
 use Rattle.base.specs.Pick.{pick}
 use Rattle.fifo.specs.declared.Fifo.{Fifo}
 use Rattle.fifo.specs.declared.Message.{Message}
-use Rattle.fifo.specs.Queue.{full, put}
+use Rattle.fifo.specs.Queue.{full, putOver, latest}
 use Rattle.filter.specs.Hits.{filhit}
 use Rattle.filter.specs.Hits as filter
 use Rattle.frame.specs.declared.Header.{Header}
@@ -19,7 +19,7 @@ use Rattle.chip.specs.Parts.{with-regs, with-hits, with-rx, with-temp}
 use Rattle.chip.specs.State.{loopback, filton, bank}
 use Rattle.receive.specs.declared.Arrival.{Arrival}
 use Rattle.receive.specs.declared.Brought.{Brought}
-use Rattle.receive.specs.declared.Arrival.the-variants.{Queued, A1, A2, A3, A4, A5}
+use Rattle.receive.specs.declared.Arrival.the-variants.{Queued, QueuedOver, A1, A2, A3, A4}
 use Rattle.flags.specs.Flags.{raised, rxtmp, rxfifo, f0mess, f1mess}
 
 -- 02: "which filters match, as one byte", of the device's filters and masks
@@ -31,18 +31,23 @@ matching d h bytes = filter.hits (bank (d .filters)) (bank (d .masks)) (compared
 unfoldable pub hits : Device → Brought → ℕ
 hits d b = pick (b .comes && filton d) (matching d (b .header) (b .payload)) 0
 
--- What becomes of a frame that the mode takes, by the filters that it hits: "A4 filtering is on and no filter matches;
--- A5 eight messages wait"
-unfoldable pub filtersAndRoom : Device → ℕ → Arrival
-filtersAndRoom d set = pick (filton d && eqb set 0) A4 (pick (full (d .rx)) A5 Queued)
+-- 02, d): "The event names the identifier that was lost", that of the latest message
+unfoldable pub overLatest : Fifo → Arrival
+overLatest q = let lost = headerIn (latest q .bytes) in QueuedOver (lost .id) (lost .extended)
 
+-- What becomes of a frame that the mode takes, by the filters that it hits: "A4 filtering is on and no filter matches";
+-- 02, d): "an accepted frame that meets eight waiting takes the eighth one's place"
+unfoldable pub filtersAndRoom : Device → ℕ → Arrival
+filtersAndRoom d set = pick (filton d && eqb set 0) A4 (pick (full (d .rx)) (overLatest (d .rx)) Queued)
+
+-- 02, d): Queued-over-latest is "elsewhere counted as Queued"
 unfoldable pub isQueued : Arrival → Bool
 isQueued Queued = true
+isQueued (QueuedOver id extended) = true
 isQueued A1 = false
 isQueued A2 = false
 isQueued A3 = false
 isQueued A4 = false
-isQueued A5 = false
 
 -- RXFIFO rises when a message "is passed from the temporary receive buffer to the receive FIFO".
 unfoldable pub queuedFlag : Bool → ℕ
@@ -54,7 +59,7 @@ unfoldable pub filterFlag : ℕ → ℕ
 filterFlag set = pick (isSet 0 set) f0mess (pick (isSet 1 set) f1mess 0)
 
 unfoldable pub queueAfter : Fifo → Message → Bool → Fifo
-queueAfter q m queued = pick queued (put q m) q
+queueAfter q m queued = pick queued (putOver q m) q
 
 -- the own message that runs, as a frame
 abbrev pub ownHeader : Device → Header
@@ -77,7 +82,8 @@ ownFrame d = record {
 abbrev pub message : Device → Header → List ℕ → ℕ → Message
 message d h bytes set = record { bytes = received h bytes (d .time) (filhit set) }
 
--- "A4, A5 and Queued put the frame" into the temporary buffer; RXTMP says so. Queued alone puts it into the FIFO.
+-- "A4 … and Queued put the frame" into the temporary buffer; RXTMP says so. If it is queued it goes into the FIFO too,
+-- last or in the latest one's place.
 unfoldable pub arrived : Device → Brought → ℕ → Arrival → Device
 arrived d b set what =
     let m = message d (b .header) (b .payload) set in

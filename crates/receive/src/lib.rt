@@ -1,6 +1,6 @@
 // A frame that the mode takes: the filters, the room, and what an arrival changes.
 ghost use mathlib.Core.Path.{_≡_};
-ghost use Rattle.receive.specs.Receive.{matching, hits, filtersAndRoom, isQueued, queuedFlag, filterFlag, queueAfter, ownFrame, arrived};
+ghost use Rattle.receive.specs.Receive.{matching, hits, overLatest, filtersAndRoom, isQueued, queuedFlag, filterFlag, queueAfter, ownFrame, arrived};
 use chip::Device;
 use chip::LOOPBACK;
 use fifo::Fifo;
@@ -10,6 +10,9 @@ use frame::Header;
 // What becomes of a good frame.
 pub enum Arrival {
     Queued,
+    // Queued in the place of the latest of eight that waited. That one is lost: its identifier, and whether it is an
+    // extended one.
+    QueuedOver(u32, bool),
     // The mode doesn't take bus frames.
     A1,
     // Bus off.
@@ -18,8 +21,6 @@ pub enum Arrival {
     A3,
     // Filtering is on and no filter matches.
     A4,
-    // Eight messages wait.
-    A5,
 }
 
 // What an event brings.
@@ -59,8 +60,18 @@ pub fn hits(d: Device, b: Brought) -> u8
     }
 }
 
+// A frame takes the place of the latest message, which is named.
+fn over_latest(q: Fifo) -> Arrival
+    ensures { λ r. ⌜ r ≡ overLatest q ⌝ }
+{
+    let m = fifo::latest(q);
+    let bytes = m.bytes;
+    let lost = frame::header_in(bytes);
+    Arrival::QueuedOver(lost.id, lost.extended)
+}
+
 // What becomes of a frame that the mode takes, by the filters that it hits. The room is asked for last: a stranger's
-// frame meets no full queue.
+// frame takes nobody's place.
 pub fn filters_and_room(d: Device, hits: u8) -> Arrival
     ensures { λ r. ⌜ r ≡ filtersAndRoom d hits ⌝ }
 {
@@ -70,7 +81,7 @@ pub fn filters_and_room(d: Device, hits: u8) -> Arrival
         return Arrival::A4;
     }
     if full {
-        return Arrival::A5;
+        return over_latest(d.rx);
     }
     Arrival::Queued
 }
@@ -80,11 +91,11 @@ fn is_queued(a: Arrival) -> bool
 {
     match a {
         Arrival::Queued => true,
+        Arrival::QueuedOver(_, _) => true,
         Arrival::A1 => false,
         Arrival::A2 => false,
         Arrival::A3 => false,
         Arrival::A4 => false,
-        Arrival::A5 => false,
     }
 }
 
@@ -110,7 +121,7 @@ fn filter_flag(hits: u8) -> u8
 fn queue_after(q: Fifo, m: Message, queued: bool) -> Fifo
     ensures { λ r. ⌜ r ≡ queueAfter q m queued ⌝ }
 {
-    if queued { fifo::put(q, m) } else { q }
+    if queued { fifo::put_over(q, m) } else { q }
 }
 
 // The message in the transmit buffer, which comes back in loopback alone.

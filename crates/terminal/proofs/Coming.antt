@@ -7,8 +7,7 @@ use native.Mathlib.Omega.{arith}
 use borrow.Author.Tests.{ne-eqb, lt-leb}
 use lib.Bits.{bitOr}
 use lib.Dec.{eqb}
-use lib.ListN.{length-append}
-use Rattle.base.specs.Bit.{byte}
+use lib.ListN.{length, length-append}
 use Rattle.base.specs.Pick.{pick}
 use Rattle.counters.specs.declared.Counters.{Counters}
 use Rattle.chip.specs.declared.Device.{Device}
@@ -17,10 +16,11 @@ use Rattle.events.specs.declared.Event.the-variants.{GoodFrame}
 use Rattle.bus.specs.Pins.{pins}
 use Rattle.bus.specs.declared.types.Pins.{Pins}
 use Rattle.promise.specs.Hits.{filhitOf}
-use Rattle.promise.specs.Sequence.{Input, spi, wire, shipped as step, number}
+use Rattle.promise.specs.Sequence.{Input, spi, wire, shipped as step, number, fate}
 use Rattle.promise.specs.Commands.{isCommand, lengthsOf, setsUp, transferFits}
 use Rattle.promise.specs.Flags.{mchg}
 use Rattle.promise.specs.Frames.{Frame}
+use Rattle.promise.specs.Ledger.{kept}
 use Rattle.promise.specs.Numbers.{findsNone, cannotBe, numberDue}
 use Rattle.promise.specs.Arrivals.{arriving, valuesDue}
 use Rattle.promise.specs.Noted.{frameMet, commanded, happened}
@@ -28,6 +28,7 @@ use Rattle.promise.specs.Records.{Records, start, with-settings, with-flags}
 use Rattle.promise.specs.Registers.{intf, pinsShown, share}
 use Rattle.promise.specs.Settings.{Settings, filton, modeNamed, atPowerUp, with-inte, with-mode}
 use Rattle.promise.proofs.After.{pinned}
+use Rattle.promise.proofs.Ledgers.{kept-more}
 use Rattle.terminal.specs.Terminal.{written, switchedOn, scanner, brought, Listens, Reached, Wakes}
 use Rattle.terminal.proofs.Doing.{further, book, Has, has, given-due, book-more, has-more, book-after, acts, on-now, unfiltered-now, left-now, listens-on}
 
@@ -62,7 +63,7 @@ module _ {d : Device} (h : Reached d) (listens : Listens d) where
 
     pub scan-book : book (further h comes) ≡ frameMet r f 0
     unfolding happened
-    scan-book = book-more h comes ∙ rw done-now (ap (λ (told : List ℕ). happened r (GoodFrame scanner true 8) scan (byte told 1)) told)
+    scan-book = book-more h comes ∙ rw done-now (ap (λ (told : List ℕ). happened r (GoodFrame scanner true 8) scan (fate told)) told)
 
     scan-has : Has (brought d scan) (frameMet r f 0)
     scan-has = has-more h comes (frameMet r f 0) scan-book
@@ -71,7 +72,7 @@ module _ {d : Device} (h : Reached d) (listens : Listens d) where
     scan-listens = listens-on h listens comes _ scan-book refl (rw (acts h listens) (on-now h listens))
 
     pub scan-count : brought d scan .rx .count ≡ d .rx .count + 1
-    scan-count = omega (arith, scan-has .waits, has h .waits, length-append (r .ledger .accepted) (f ∷ []))
+    scan-count = omega (arith, scan-has .waits, has h .waits, ap length (kept-more (r .ledger .accepted) f), length-append (kept (r .ledger)) (f ∷ []))
 
     scan-flags : Wakes d → brought d scan .regs .intf ≡ 0xC0
     unfolding filhitOf

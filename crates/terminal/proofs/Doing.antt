@@ -17,14 +17,15 @@ use Rattle.host.specs.Transfer.{replyAfter}
 use Rattle.promise.specs.Sequence.{Input, spi, Given, replied, answered, shipped as step}
 use Rattle.promise.specs.Commands.{isCommand, lengthsOf, setsUp, transferFits}
 use Rattle.promise.specs.Flags.{together}
-use Rattle.promise.specs.Ledger.{left, oldest, takes}
+use Rattle.promise.specs.Ledger.{kept, left, oldest, takes}
 use Rattle.promise.specs.Numbers.{findsNone, numberDue}
 use Rattle.promise.specs.Due.{Due, situationOf, filled}
 use Rattle.promise.specs.After.{recorded}
 use Rattle.promise.specs.Noted.{noted, byTheRules, commanded}
 use Rattle.promise.specs.Records.{Records, with-flags, with-ledger}
-use Rattle.promise.specs.Registers.{fields, from, statf, intf, shown}
+use Rattle.promise.specs.Registers.{fields, from, statf, shown}
 use Rattle.promise.specs.Settings.{Settings, settingsOf, filton}
+use Rattle.promise.proofs.Ledgers.{counted-once}
 use Rattle.promise.proofs.Steps.{run-more}
 use Rattle.promise.proofs.After.{settled, counted, raised, due, recorded-more, taken-and-left}
 use Rattle.terminal.specs.Terminal.{asked, reply, statusOf, Listens, Reached}
@@ -50,7 +51,7 @@ pub record Has (d : Device) (r : Records) : Type 0 where
   pub settings : settingsOf d ≡ r .settings
   pub counters : d .counters ≡ r .counters
   pub flags : d .regs .intf ≡ together (r .flags)
-  pub waits : length (r .ledger .taken) + d .rx .count ≡ length (r .ledger .accepted)
+  pub waits : length (r .ledger .taken) + d .rx .count ≡ length (kept (r .ledger))
 
 pub has : {d : Device} (h : Reached d) → Has d (book h)
 has h = record {
@@ -109,7 +110,7 @@ module _ {d : Device} (h : Reached d) (listens : Listens d) where
   unfiltered-now = ap filton (sym (has h .settings)) ∙ listens .unfiltered
 
   pub left-now : left (r .ledger) ≡ d .rx .count
-  left-now = omega (arith, has h .waits)
+  left-now = omega (arith, has h .waits, counted-once (r .ledger .accepted))
 
   -- a step that leaves settings and bus off
   module _ (i : Input) (after : Records) (is : book (further h i) ≡ after) (same : after .settings ≡ r .settings) (on : after .counters .busoff ≡ false) where

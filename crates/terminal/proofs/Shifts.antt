@@ -10,6 +10,7 @@ use lib.Seq.{take-add, length-take-le}
 use Rattle.chip.specs.declared.Device.{Device}
 use Rattle.bus.specs.Pins.{pins}
 use Rattle.promise.specs.Frames.{message}
+use Rattle.promise.specs.Ledger.{kept}
 use Rattle.promise.specs.Records.{Records}
 use Rattle.terminal.specs.declared.Turn.{Turn}
 use Rattle.terminal.specs.Terminal.{switchedOn, brought, scans as scansIn, Reached, Listens, Serves, Wakes, Served}
@@ -46,7 +47,7 @@ pub begun : (scans page : List ℕ) (n : ℕ) → n * 8 ≤ length scans → len
 begun scans page n enough fits = record {
   serves = record {
     reached = on;
-    accepted = ap (λ (r : Records). scansIn (map message (r .ledger .accepted))) on-book;
+    stand = ap (λ (r : Records). scansIn (map message (kept (r .ledger)))) on-book;
     taken = ap (λ (r : Records). scansIn (map message (r .ledger .taken))) on-book;
   };
   listens = on-listens;

@@ -16,6 +16,7 @@ use Rattle.bus.specs.Event.{event}
 use Rattle.host.specs.Transfer.{transfer, replyAfter}
 use Rattle.promise.specs.Sequence.{Input, shipped, run}
 use Rattle.promise.specs.Frames.{message}
+use Rattle.promise.specs.Ledger.{kept}
 use Rattle.promise.specs.After.{recorded}
 use Rattle.promise.specs.Registers.{from}
 use Rattle.promise.specs.Settings.{settingsOf, filton}
@@ -76,10 +77,10 @@ pub record Reached (d : Device) : Type 0 where
   pub history : List Input
   pub is : d ≡ run shipped fresh history
 
--- And by the records of it, what arrived is what was accepted, and what is printed is what reads took.
+-- And by the records of it, what arrived is what was accepted and stands, and what is printed is what reads took.
 pub record Serves (d : Device) (arrived printed : List ℕ) : Type 0 where
   pub reached : Reached d
-  pub accepted : scans (map message (recorded shipped (reached .history) .ledger .accepted)) ≡ arrived
+  pub stand : scans (map message (kept (recorded shipped (reached .history) .ledger))) ≡ arrived
   pub taken : scans (map message (recorded shipped (reached .history) .ledger .taken)) ≡ printed
 
 -- INTF has RXTMP and RXFIFO while messages wait that the terminal was not yet woken for, and nothing else

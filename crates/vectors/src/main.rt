@@ -106,9 +106,9 @@ fn full_queue(start: Device) -> Device {
 
 fn eight_and_a_ninth() {
     say(b"eight frames, a ninth, one read, the next:");
-    let d = scan(full_queue(normal()), 0x123);
+    let d = scan(full_queue(normal()), 0x124);
     let e = read(d, 0x48, 0);
-    scan(e, 0x123);
+    scan(e, 0x125);
     say(b"\n");
 }
 

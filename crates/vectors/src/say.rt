@@ -34,14 +34,28 @@ pub(crate) fn say_number(n: u8) {
     say(&[b' ', DIGITS[(n % 10) as usize]]);
 }
 
+// The identifier that is lost, in four bytes, and its kind.
+fn say_over(id: u32, extended: bool) {
+    say(b" Queued-over");
+    say_byte((id / 16777216) as u8);
+    say_byte((id / 65536 % 256) as u8);
+    say_byte((id / 256 % 256) as u8);
+    say_byte((id % 256) as u8);
+    if extended {
+        say(b" ext");
+    } else {
+        say(b" std");
+    }
+}
+
 pub(crate) fn say_arrival(what: Arrival) {
     match what {
         Arrival::Queued => say(b" Queued"),
+        Arrival::QueuedOver(id, extended) => say_over(id, extended),
         Arrival::A1 => say(b" A1"),
         Arrival::A2 => say(b" A2"),
         Arrival::A3 => say(b" A3"),
         Arrival::A4 => say(b" A4"),
-        Arrival::A5 => say(b" A5"),
     }
 }
 

@@ -1,5 +1,5 @@
--- Why a frame would not arrive (02, b)): "Given a device and a good frame, the tool prints Queued or the reason A1 to
--- A5, and for A4, by rising filter, the byte and bit of the first counted bit that differs". The device is no result.
+-- Why a frame would not arrive (02, b)): "Given a device and a good frame, the tool prints Queued or the reason …, and
+-- for A4, by rising filter, the byte and bit of the first counted bit that differs". The device is no result.
 use mathlib.Core.Bool.{Bool, true, false}
 use mathlib.Core.List.{List, []}
 use Prim.Native.Nat.{ℕ, _+_, _-_, _/_, _%_}
@@ -14,7 +14,7 @@ use Rattle.filter.specs.First.{firstDifference}
 use Rattle.chip.specs.declared.Device.{Device}
 use Rattle.chip.specs.State.{bank}
 use Rattle.receive.specs.declared.Arrival.{Arrival}
-use Rattle.receive.specs.declared.Arrival.the-variants.{Queued, A1, A2, A3, A4, A5}
+use Rattle.receive.specs.declared.Arrival.the-variants.{Queued, QueuedOver, A1, A2, A3, A4}
 use Rattle.judged.specs.declared.Answer.{Answer}
 use Rattle.judged.specs.declared.Answer.the-variants.{Refused, Done, Arrived}
 use Rattle.events.specs.declared.Event.the-variants.{GoodFrame}
@@ -45,11 +45,11 @@ places d h bytes = tabulate (placeIn (bank (d .filters)) (bank (d .masks)) (comp
 
 unfoldable pub isA4 : Arrival → Bool
 isA4 Queued = false
+isA4 (QueuedOver id extended) = false
 isA4 A1 = false
 isA4 A2 = false
 isA4 A3 = false
 isA4 A4 = true
-isA4 A5 = false
 
 unfoldable pub noFilter : Answer → Bool
 noFilter (Refused n) = false

@@ -91,11 +91,11 @@ fn is_a4(what: Arrival) -> bool
 {
     match what {
         Arrival::Queued => false,
+        Arrival::QueuedOver(_, _) => false,
         Arrival::A1 => false,
         Arrival::A2 => false,
         Arrival::A3 => false,
         Arrival::A4 => true,
-        Arrival::A5 => false,
     }
 }
 

@@ -12,8 +12,8 @@ returns c = rw (← c .before .before .filton .ensures) (search (picks, judges, 
 returns-2 : tie.Need-returns-2
 unfolding filtersAndRoom
 returns-2 c =
-    rw (← c .before .before .before .filton .ensures, ← c .before .before .full .ensures)
-    (search (picks, judges, c .if2 .taken, c .before .if1 .left))
+    rw (← c .before .before .before .before .filton .ensures, ← c .before .before .before .full .ensures, ← c .over-latest .ensures)
+    (search (picks, judges, c .before .if2 .taken, c .before .before .if1 .left))
 
 returns-3 : tie.Need-returns-3
 unfolding filtersAndRoom
@@ -22,4 +22,4 @@ returns-3 c =
     (search (picks, judges, c .if2 .left, c .before .if1 .left))
 
 pub filters-and-room-spec : {M : Type 1} → statement M
-filters-and-room-spec = tie.close (tie.spec (search needs) (search needs) returns returns-2 returns-3)
+filters-and-room-spec = tie.close (tie.spec (search needs) (search needs) returns (search needs) returns-2 returns-3)
