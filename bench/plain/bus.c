@@ -31,6 +31,7 @@ static int arrive(struct hi3110 *d)
     const uint8_t *frame = d->temporary + 2;
     unsigned hit = 0;
     put16(d->temporary, d->time_tag);
+    d->temporary_number = ++d->arrivals;
     d->intf |= INTF_RXTMP;
     d->filhit = 0;
     if (d->ctrl1 & CTRL1_FILTON) {
@@ -46,9 +47,11 @@ static int arrive(struct hi3110 *d)
     bool full = d->rx_count == HI3110_PLACES;
     if (!full)
         d->rx_count++;
-    uint8_t *m = d->rx[(d->rx_head + d->rx_count - 1) % HI3110_PLACES];
+    unsigned place = (d->rx_head + d->rx_count - 1) % HI3110_PLACES;
+    uint8_t *m = d->rx[place];
     if (full)
         d->lost = identifier(get32(m + 3));
+    d->rx_number[place] = d->temporary_number;
     m[0] = (frame[1] & ID_IDE >> 16 ? 0x80 : 0) | hit;
     memcpy(m + 1, d->temporary, 15);
     d->intf |= INTF_RXFIFO;
@@ -80,6 +83,8 @@ int hi3110_frame(struct hi3110 *d, const struct can_frame_event *f)
         return HI3110_A2_BUS_OFF;
     if (d->mode == MONITOR && !f->acknowledged)
         return HI3110_A3_NOT_ACKNOWLEDGED;
+    if (d->arrivals == UINT64_MAX)
+        return HI3110_NO_NUMBER;
 
     uint32_t id;
     if (f->extended)
@@ -129,6 +134,8 @@ static int complete(struct hi3110 *d)
 {
     if (d->transmission == IDLE)
         return HI3110_IMPOSSIBLE;
+    if (d->mode == LOOPBACK && d->arrivals == UINT64_MAX)
+        return HI3110_NO_NUMBER;
     if (d->transmission == FIRST_OF_FIFO) {
         d->tx_head = (d->tx_head + 1) % HI3110_PLACES;
         d->tx_count--;

@@ -4,6 +4,7 @@
 void hi3110_reset(struct hi3110 *d)
 {
     memset(d->temporary, 0, sizeof d->temporary);
+    d->temporary_number = 0;
     d->rx_head = d->rx_count = 0;
     d->tx_head = d->tx_count = 0;
     d->history_head = d->history_count = 0;

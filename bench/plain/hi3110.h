@@ -17,6 +17,7 @@ enum hi3110_answer {
     HI3110_TX_FULL = 6,
     HI3110_NOTHING_THERE = 7,
     HI3110_IMPOSSIBLE = 8,
+    HI3110_NO_NUMBER = 12, /* the last arrival number has been given */
     HI3110_QUEUED = 16,
     HI3110_A1_MODE,
     HI3110_A2_BUS_OFF,
@@ -62,6 +63,8 @@ struct hi3110_message {
 struct hi3110 {
     uint8_t rx[HI3110_PLACES][16];           /* Table 5, bytes 1 to 16 */
     uint8_t temporary[15];                   /* Table 5, bytes 2 to 16 */
+    uint64_t rx_number[HI3110_PLACES];       /* the arrival numbers of what stands in both */
+    uint64_t temporary_number;
     struct hi3110_message tx[HI3110_PLACES];
     struct hi3110_message tx_buffer;         /* the message begun */
     uint8_t history[HI3110_PLACES][3];       /* Table 3 */
@@ -77,6 +80,7 @@ struct hi3110 {
     uint32_t lost;                           /* the identifier that was overwritten last, and LOST_EXTENDED */
 
     /* What outlives a reset. */
+    uint64_t arrivals;                       /* the last arrival number that was given */
     uint8_t err;                             /* ERR's bits 4 to 0 */
     uint8_t rec, tec;
     uint8_t bus_off, recessive_groups;

@@ -3,6 +3,7 @@
 use crate::device::*;
 use crate::fate::Fate;
 use crate::frame::{data_bytes, Frame, Received};
+use crate::host::Refusal;
 
 /// A frame as it is told, possible or not.
 pub struct ToldFrame {
@@ -30,8 +31,8 @@ pub enum Event {
     MrPin,
 }
 
-/// Number 8.
-pub struct Impossible;
+const IMPOSSIBLE: Refusal = 8;
+const NO_NUMBER_LEFT: Refusal = 12;
 
 /// Bit 0 of byte 4 has no name in Table 4b.
 const COUNTED: [u8; 6] = [0xFF, 0xFF, 0xFF, 0xFE, 0xFF, 0xFF];
@@ -45,14 +46,14 @@ fn filhit_of(hits: u8) -> u8 {
 }
 
 impl ToldFrame {
-    pub fn possible(self) -> Result<Frame, Impossible> {
+    pub fn possible(self) -> Result<Frame, Refusal> {
         let bits = if self.extended { 29 } else { 11 };
         if self.identifier >> bits != 0 || self.length_code > 15 {
-            return Err(Impossible);
+            return Err(IMPOSSIBLE);
         }
         let length_code = self.length_code as u8;
         if self.data.len() != data_bytes(length_code, self.remote) {
-            return Err(Impossible);
+            return Err(IMPOSSIBLE);
         }
         Ok(Frame {
             identifier: self.identifier,
@@ -65,11 +66,11 @@ impl ToldFrame {
 }
 
 impl Device {
-    pub fn event(&mut self, event: Event) -> Result<Option<Fate>, Impossible> {
+    pub fn event(&mut self, event: Event) -> Result<Option<Fate>, Refusal> {
         match event {
             Event::GoodFrame { told, acknowledged } => {
                 let frame = told.possible()?;
-                return Ok(Some(self.good_frame(frame, acknowledged)));
+                return self.good_frame(frame, acknowledged).map(Some);
             }
             Event::ReceiveError(kind) => {
                 self.errors_possible()?;
@@ -84,7 +85,7 @@ impl Device {
             Event::Begun => self.begin()?,
             Event::Completed => return self.complete(),
             Event::ArbitrationLost => {
-                self.running.as_ref().ok_or(Impossible)?;
+                self.running.as_ref().ok_or(IMPOSSIBLE)?;
                 self.stop_running();
             }
             Event::ElevenRecessive => self.eleven_recessive(),
@@ -103,22 +104,23 @@ impl Device {
         Ok(None)
     }
 
-    pub fn good_frame(&mut self, frame: Frame, acknowledged: bool) -> Fate {
+    pub fn good_frame(&mut self, frame: Frame, acknowledged: bool) -> Result<Fate, Refusal> {
         match self.acting {
             Mode::Sleep => {
                 // The frame that wakes is itself lost.
                 self.wake_up();
-                return Fate::A1;
+                return Ok(Fate::A1);
             }
-            Mode::Initialization | Mode::Loopback => return Fate::A1,
+            Mode::Initialization | Mode::Loopback => return Ok(Fate::A1),
             _ => {}
         }
         if self.bus_off {
-            return Fate::A2;
+            return Ok(Fate::A2);
         }
         if self.acting == Mode::Monitor && !acknowledged {
-            return Fate::A3;
+            return Ok(Fate::A3);
         }
+        self.number_left()?;
         if self.acting == Mode::Normal {
             self.rec = match self.rec {
                 0 => 0,
@@ -126,7 +128,15 @@ impl Device {
                 _ => 119,
             };
         }
-        self.receive(frame)
+        Ok(self.receive(frame))
+    }
+
+    /// To be asked before anything changes.
+    fn number_left(&self) -> Result<(), Refusal> {
+        match self.numbers_given {
+            u64::MAX => Err(NO_NUMBER_LEFT),
+            _ => Ok(()),
+        }
     }
 
     fn wake_up(&mut self) {
@@ -137,8 +147,10 @@ impl Device {
         }
     }
 
-    /// From the temporary buffer through the filters into the FIFO.
+    /// From the temporary buffer through the filters into the FIFO. What gets as far as here is numbered, wherever
+    /// it ends.
     fn receive(&mut self, frame: Frame) -> Fate {
+        self.numbers_given += 1;
         let filtering = self.ctrl1 & CTRL1_FILTON != 0;
         let hits = if filtering { self.hits(&frame) } else { 0 };
         let filhit = filhit_of(hits);
@@ -146,6 +158,7 @@ impl Device {
             frame,
             time_tag: self.time_tag,
             filhit,
+            number: self.numbers_given,
         };
         self.temporary = Some(received.clone());
         self.intf |= INTF_RXTMP;
@@ -178,10 +191,10 @@ impl Device {
         (0..8).fold(0, |set, n| set | u8::from(matches(n)) << n)
     }
 
-    fn errors_possible(&self) -> Result<(), Impossible> {
+    fn errors_possible(&self) -> Result<(), Refusal> {
         match self.acting {
-            Mode::Initialization | Mode::Sleep => Err(Impossible),
-            _ if self.bus_off => Err(Impossible),
+            Mode::Initialization | Mode::Sleep => Err(IMPOSSIBLE),
+            _ if self.bus_off => Err(IMPOSSIBLE),
             _ => Ok(()),
         }
     }
@@ -198,8 +211,8 @@ impl Device {
     }
 
     /// One runs in normal and loopback mode only, and not in bus off: nothing else is to check.
-    fn transmit_error(&mut self, kind: u8, counted: bool) -> Result<(), Impossible> {
-        self.running.as_ref().ok_or(Impossible)?;
+    fn transmit_error(&mut self, kind: u8, counted: bool) -> Result<(), Refusal> {
+        self.running.as_ref().ok_or(IMPOSSIBLE)?;
         self.note_error(kind);
         self.stop_running();
         if counted {
@@ -210,12 +223,12 @@ impl Device {
         Ok(())
     }
 
-    fn begin(&mut self) -> Result<(), Impossible> {
+    fn begin(&mut self) -> Result<(), Refusal> {
         let can_send = matches!(self.acting, Mode::Normal | Mode::Loopback) && !self.bus_off;
         if self.running.is_some() || !can_send || !self.enabled() {
-            return Err(Impossible);
+            return Err(IMPOSSIBLE);
         }
-        let message = self.transmit_fifo.pop_front().ok_or(Impossible)?;
+        let message = self.transmit_fifo.pop_front().ok_or(IMPOSSIBLE)?;
         self.running = Some(Running {
             message,
             has_place: true,
@@ -226,8 +239,13 @@ impl Device {
         Ok(())
     }
 
-    fn complete(&mut self) -> Result<Option<Fate>, Impossible> {
-        let message = self.running.take().ok_or(Impossible)?.message;
+    fn complete(&mut self) -> Result<Option<Fate>, Refusal> {
+        let comes_back = self.acting == Mode::Loopback;
+        // With nothing begun it is 8.
+        if comes_back && self.running.is_some() {
+            self.number_left()?;
+        }
+        let message = self.running.take().ok_or(IMPOSSIBLE)?.message;
         if self.history.len() < ROOM {
             self.history.push_back((message.tag, self.time_tag));
         }
@@ -235,10 +253,7 @@ impl Device {
         self.tec = self.tec.saturating_sub(1);
         self.ctrl1 &= !CTRL1_TX1M;
         self.intf |= INTF_TXCPLT;
-        if self.acting == Mode::Loopback {
-            return Ok(Some(self.receive(message.frame)));
-        }
-        Ok(None)
+        Ok(comes_back.then(|| self.receive(message.frame)))
     }
 
     fn eleven_recessive(&mut self) {

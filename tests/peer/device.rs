@@ -73,6 +73,8 @@ pub struct Device {
     pub masks: [[u8; 6]; 8],
     pub receive_fifo: VecDeque<Received>,
     pub temporary: Option<Received>,
+    /// Arrival numbers since power-up; the latest is the same as their count.
+    pub numbers_given: u64,
     /// Without the running message: see `messages_to_send`.
     pub transmit_fifo: VecDeque<Message>,
     pub running: Option<Running>,
@@ -103,6 +105,7 @@ impl Device {
             masks: [[0; 6]; 8],
             receive_fifo: VecDeque::new(),
             temporary: None,
+            numbers_given: 0,
             transmit_fifo: VecDeque::new(),
             running: None,
             history: VecDeque::new(),
@@ -121,6 +124,8 @@ impl Device {
         self.groups = before.groups;
         self.filters = before.filters;
         self.masks = before.masks;
+        // Two arrivals would else have the same number.
+        self.numbers_given = before.numbers_given;
         // A wire from outside: no reset inside moves it.
         self.txen_pin = before.txen_pin;
     }

@@ -20,11 +20,12 @@ type Scene = fn(&mut Drawer);
 
 /// Scenes with their weights. Each script multiplies the weights by small numbers of its own, zero
 /// among them: a script without reads fills its queues, one without resets goes deep.
-const SCENES: [(Scene, usize); 24] = [
+const SCENES: [(Scene, usize); 25] = [
     (Drawer::arrivals, 6),
     (Drawer::set_filters, 3),
     (Drawer::filtered_arrivals, 7),
     (Drawer::full_queue, 9),
+    (Drawer::equal_frames, 10),
     (Drawer::load_messages, 5),
     (Drawer::send, 12),
     (Drawer::send_in_loopback, 5),
@@ -66,6 +67,7 @@ pub fn draw(seed: u64, requests: usize) -> Vec<String> {
     } else {
         requests
     };
+    drawer.look_at_numbers(20);
     // A fresh device's filters match every frame, so they tell little before they are written.
     if drawer.random.chance(50) {
         drawer.set_filters();
@@ -146,9 +148,10 @@ impl Drawer {
     }
 
     pub fn peek(&mut self) {
-        match self.random.below(8) {
+        match self.random.below(10) {
             0 | 1 => self.say("pins"),
-            2 => self.ask_filters(),
+            2 | 3 => self.say("numbers"),
+            4 => self.ask_filters(),
             _ => {
                 let code = self.random.pick(&PEEKS);
                 self.spi(&[code]);
@@ -205,6 +208,7 @@ impl Drawer {
             self.spi(&[code]);
         }
         self.say("pins");
+        self.say("numbers");
         self.drain();
         // What waits to be sent shows only when it goes round.
         self.spi(&[0x14, 0x20]);

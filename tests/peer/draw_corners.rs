@@ -199,6 +199,7 @@ impl Drawer {
             7..=9 => self.reset_once(),
             _ => self.change_mode(),
         }
+        self.look_at_numbers(20);
         self.look_at(&[0xD2, 0xDE, 0xE2, 0xD4, 0x42]);
     }
 }

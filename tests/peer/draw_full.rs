@@ -27,6 +27,7 @@ impl Drawer {
             let more = self.random.pick(&[0, 1, 2, 4]);
             self.fill_queue(ROOM + more);
             self.at_full_queue();
+            self.look_at_numbers(50);
             self.look_at(&OF_AN_ARRIVAL);
         }
         if self.random.chance(70) {
@@ -85,6 +86,7 @@ impl Drawer {
         for _ in 0..self.random.between(2, 5) {
             let frame = self.frame_at_filter();
             self.say_frame(&Words::of(&frame));
+            self.look_at_numbers(25);
             self.look_at(&[0xDE, 0xDA]);
         }
     }
@@ -93,6 +95,7 @@ impl Drawer {
     fn empty_at_once(&mut self) {
         if self.random.chance(50) {
             self.spi(&[0x5A]);
+            self.look_at_numbers(50);
         } else {
             self.reset_once();
             self.ctrl0(0x00);
@@ -105,6 +108,7 @@ impl Drawer {
         for _ in 0..=self.device().receive_fifo.len() {
             let code = self.random.pick(&[0x46, 0x46, 0x48, 0x4A, 0x4C]);
             self.spi(&[code]);
+            self.look_at_numbers(15);
         }
     }
 }

@@ -128,9 +128,11 @@ impl Drawer {
             _ => {
                 let others = self.random.byte();
                 self.spi(&[0x14, others | 0x08]);
+                self.look_at_numbers(40);
                 self.spi(&[0xD2]);
             }
         }
+        self.look_at_numbers(40);
     }
 
     pub fn reset(&mut self) {

@@ -205,6 +205,7 @@ impl Drawer {
                 self.any_frame()
             };
             self.say_frame(&Words::of(&frame));
+            self.look_at_numbers(15);
             self.look_mostly(looks);
             if self.random.chance(25) {
                 // It must leave no trace.

@@ -5,7 +5,7 @@ use crate::frame::Frame;
 use crate::random::Random;
 use crate::script::LONGEST_LINE;
 
-const PLAIN: [&str; 10] = [
+const PLAIN: [&str; 11] = [
     "dominant",
     "begin",
     "done",
@@ -16,6 +16,7 @@ const PLAIN: [&str; 10] = [
     "txen 0",
     "txen 1",
     "pins",
+    "numbers",
 ];
 const UNREADABLE: &str =
     "SPI D2|spi D|spi 0D2|spi G2|spi/17 D2|spi/ D2|spi /16 D2|spi/a D2|spi/-1 D2|\
@@ -29,6 +30,16 @@ const UNREADABLE: &str =
     hits 123 std data|hits 123 std data A|hits 123 std remote 0 ack|hits 123 std data 1 noack 00|\
     hits 123 std data 1 1|hits 123 std data 1 00 ABC 1|hit 123 std data 0|Hits 123 std data 0|\
     hits123 std data 0|pins \"all\"|begin \\now|mr \u{7F}~!|\u{E9}";
+pub const NEARLY_NUMBERS: [&str; 8] = [
+    "number",
+    "numbers 1",
+    "NUMBERS",
+    "Numbers",
+    "numbers numbers",
+    "numbers,",
+    "numbers/1",
+    "num bers",
+];
 const EIGHT: &str = " 01 02 03 04 05 06 07 08";
 
 /// What `frame` and `hits` say of a frame: `frame` has the acknowledgement in between.
@@ -121,6 +132,7 @@ impl Drawer {
             let words = self.impossible_frame();
             self.say_frame(&words);
         }
+        self.look_at_numbers(15);
     }
 
     /// As long as a line may be, or a few blanks longer.
@@ -130,7 +142,8 @@ impl Drawer {
     }
 
     pub fn unreadable_line(&mut self) -> &'static str {
-        let lines: Vec<&str> = UNREADABLE.split('|').collect();
+        let lines = UNREADABLE.split('|').chain(NEARLY_NUMBERS);
+        let lines: Vec<&str> = lines.collect();
         self.random.pick(&lines)
     }
 

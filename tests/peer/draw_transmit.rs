@@ -6,7 +6,7 @@ use crate::frame::Frame;
 
 impl Drawer {
     /// Table 2's bytes, with whatever the device has to ignore drawn at random.
-    fn message_bytes(&mut self, frame: &Frame) -> Vec<u8> {
+    pub fn message_bytes(&mut self, frame: &Frame) -> Vec<u8> {
         let id = frame.filter_bytes();
         let junk = self.random.byte();
         let mut bytes = vec![0x12, self.random.byte(), id[0]];
@@ -145,6 +145,7 @@ impl Drawer {
         for _ in 0..self.random.pick(&[1, 2, 4]) {
             self.start();
             self.say("done");
+            self.look_at_numbers(25);
             let code = self
                 .random
                 .pick(&[0x42, 0x44, 0x46, 0x46, 0x48, 0x4A, 0xEE]);

@@ -183,7 +183,8 @@ impl Drawer {
             0..=8 => self.impossible_frame().arriving(acknowledged),
             9 => self.stretched(&frame),
             10..=12 => self.unreadable_line().to_string(),
-            13..=15 => self.random.pick(&OTHER_REQUESTS).to_string(),
+            13 => "numbers".to_string(),
+            14 | 15 => self.random.pick(&OTHER_REQUESTS).to_string(),
             _ => frame,
         };
         let line = decorate(&mut self.random, &line);

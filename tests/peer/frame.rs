@@ -34,6 +34,8 @@ pub struct Received {
     pub time_tag: u16,
     /// As MESSTAT shows it; byte 1 has its lower three bits.
     pub filhit: u8,
+    /// Its arrival number, which no byte shows.
+    pub number: u64,
 }
 
 pub fn data_bytes(length_code: u8, remote: bool) -> usize {

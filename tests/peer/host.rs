@@ -4,7 +4,7 @@ use crate::commands::{Job, Readable, Stretches, Writable, TABLE_1};
 use crate::device::*;
 use crate::frame::{Message, Received};
 
-/// Document 01's number for a refusal.
+/// The number that document 01, or a request of 02, has for a refusal.
 pub type Refusal = u8;
 
 const NOT_A_COMMAND: Refusal = 2;

@@ -12,6 +12,7 @@ mod draw_errors;
 mod draw_full;
 mod draw_host;
 mod draw_near;
+mod draw_numbers;
 mod draw_receive;
 mod draw_text;
 mod draw_transmit;
@@ -20,6 +21,7 @@ mod fate;
 mod frame;
 mod host;
 mod hostile;
+mod last_number;
 mod noise;
 mod random;
 mod request;
@@ -37,6 +39,7 @@ use why::Why;
 
 const USAGE: &str = "usage: peer answers < SCRIPT
        peer why < SCRIPT
+       peer last-number
        peer draw SEED LINES
        peer draw-why SEED
        peer compare FACE SEED LINES [-v]
@@ -73,6 +76,7 @@ fn run(words: &[&str]) -> Option<Result<bool, Error>> {
     match words {
         ["answers"] => Some(answer_input(Session::fresh()).map(|()| true)),
         ["why"] => Some(answer_input(Why::fresh()).map(|()| true)),
+        ["last-number"] => Some(Ok(last_number::holds())),
         ["draw", seed, lines] => {
             let script = draw::draw(seed.parse().ok()?, lines.parse().ok()?);
             let output = std::io::stdout().write_all(draw::text(&script).as_bytes());

@@ -1,6 +1,8 @@
 //! Hostile bytes: drawn scripts that were damaged, pure chance, and lines that never seem to end.
 
+use crate::device::RECOVERY_GROUPS;
 use crate::draw::{draw, text};
+use crate::draw_text::NEARLY_NUMBERS;
 use crate::random::Random;
 use crate::script::LONGEST_LINE;
 
@@ -9,6 +11,7 @@ pub struct Noise {
     random: Random,
     pub bytes: usize,
     left: usize,
+    frames_come: bool,
     short_lines_come: bool,
     last: &'static [u8],
 }
@@ -20,6 +23,7 @@ impl Noise {
             random: Random::new(seed),
             bytes,
             left: bytes,
+            frames_come: true,
             short_lines_come: true,
             last,
         }
@@ -30,6 +34,7 @@ impl Noise {
             return None;
         }
         let mut chunk = match self.random.below(20) {
+            _ if self.frames_come && self.left < self.bytes / 4 * 3 => self.many_frames(),
             _ if self.short_lines_come && self.left < self.bytes / 2 => self.short_lines(),
             0 => self.long_line(),
             1 | 2 => self.pure_chance(),
@@ -45,11 +50,29 @@ impl Noise {
         Some(chunk)
     }
 
+    /// Comes once, after a quarter. With a million bytes in all it is a thousand frames, so that arrival numbers after
+    /// them need more than eight bits.
+    fn many_frames(&mut self) -> Vec<u8> {
+        self.frames_come = false;
+        // Whatever state the device is in: normal mode, and out of bus off.
+        let groups = "recessive\n".repeat(usize::from(RECOVERY_GROUPS));
+        let mut chunk = format!("\nmr\nspi 14 04\n{}", groups);
+        for _ in 0..self.bytes / 1000 {
+            chunk.push_str("frame 0 std data 0 ack\n");
+            match self.random.below(40) {
+                0 | 1 => chunk.push_str("numbers\n"),
+                2 => chunk.extend([self.random.pick(&NEARLY_NUMBERS), "\n"]),
+                _ => {}
+            }
+        }
+        chunk.into_bytes()
+    }
+
     /// Comes once, half-way. With a million bytes in all it is a hundred thousand lines, so that the numbers of those
     /// after them need more than sixteen bits.
     fn short_lines(&mut self) -> Vec<u8> {
         self.short_lines_come = false;
-        let lines = ["", "", "", "#", "x", "mr", "spi"];
+        let lines = ["", "", "", "", "", "", "#", "x", "mr", "spi", "numbers"];
         let mut chunk = Vec::new();
         for _ in 0..self.bytes / 10 {
             chunk.extend_from_slice(self.random.pick(&lines).as_bytes());
@@ -111,7 +134,7 @@ impl Noise {
             2 => self.random.between(LONGEST_LINE - 3, LONGEST_LINE + 3),
             _ => self.random.below(4 * LONGEST_LINE),
         };
-        let (start, fill): (&[u8], &[u8]) = match self.random.below(9) {
+        let (start, fill): (&[u8], &[u8]) = match self.random.below(11) {
             0 => (b"\nspi D2", b" "),
             1 => (b"\nspi", b" 00"),
             2 => (b"\nticks ", b"7"),
@@ -119,7 +142,9 @@ impl Noise {
             4 => (b"\nframe 0 std data ", b"1"),
             5 => (b"\nhits 0 ext data 8", b" 00"),
             6 => (b"\npins #", b"#x"),
-            7 => (b"\n", b"\t\r "),
+            7 => (b"\nnumbers", b" "),
+            8 => (b"\nnumber", b"s"),
+            9 => (b"\n", b"\t\r "),
             _ => (b"\n", b"\0\xFF"),
         };
         let mut line = start.to_vec();

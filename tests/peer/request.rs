@@ -6,6 +6,7 @@ pub enum Request {
     Transfer { bytes: Vec<u8>, reply_room: usize },
     Event(Event),
     Hits(ToldFrame),
+    Numbers,
     Pins,
 }
 
@@ -23,7 +24,7 @@ type Read<'a, T> = Result<T, Unreadable<'a>>;
 /// A reply buffer has at most this many bytes.
 pub const REPLY_BUFFER: usize = 16;
 
-const REQUEST: Expected = "a request: spi, frame, an event, hits or pins";
+const REQUEST: Expected = "a request: spi, frame, an event, hits, numbers or pins";
 const ROOM: Expected = "spi, or spi/ and a buffer size from 0 to 16";
 const END: Expected = "nothing more on this line";
 
@@ -48,6 +49,7 @@ pub fn read<'a>(words: &[&'a [u8]]) -> Read<'a, Request> {
     let first = next(&mut rest);
     let request = match first {
         b"pins" => Request::Pins,
+        b"numbers" => Request::Numbers,
         b"frame" => Request::Event(good_frame(&mut rest)?),
         b"hits" => Request::Hits(hits(&mut rest)?),
         _ if first.starts_with(b"spi") => {

@@ -1,6 +1,5 @@
 //! A script, byte by byte: its lines, and the model of `face`, which answers each.
 
-use crate::bus::Impossible;
 use crate::device::Device;
 use crate::host::Refusal;
 use crate::request::{read, Expected, Request, Unreadable};
@@ -11,8 +10,6 @@ pub const LONGEST_LINE: usize = 65536;
 
 /// Of a longer word this many bytes are told.
 const LONGEST_WORD: usize = 16;
-
-const IMPOSSIBLE: Refusal = 8;
 
 /// Cuts a script into lines.
 pub struct Lines {
@@ -110,6 +107,19 @@ impl Lines {
     }
 }
 
+/// The last one given, the temporary buffer's, and those of the messages that wait, oldest first.
+fn numbers(device: &Device) -> String {
+    let last = device.numbers_given;
+    let temporary = device.temporary.as_ref().map_or(0, |latest| latest.number);
+    let waiting = device.receive_fifo.iter();
+    let waiting: Vec<String> = waiting.map(|message| message.number.to_string()).collect();
+    let waiting = match waiting[..] {
+        [] => "-".to_string(),
+        _ => waiting.join(","),
+    };
+    format!("last={} temp={} waiting={}", last, temporary, waiting)
+}
+
 /// The text of an answer 0, or the number of a refusal.
 pub fn answer(device: &mut Device, request: Request) -> Result<String, Refusal> {
     Ok(match request {
@@ -120,14 +130,15 @@ pub fn answer(device: &mut Device, request: Request) -> Result<String, Refusal> 
                 text
             })
         }
-        Request::Event(event) => match device.event(event).map_err(|Impossible| IMPOSSIBLE)? {
+        Request::Event(event) => match device.event(event)? {
             None => "0".to_string(),
             Some(fate) => format!("0 {}", fate),
         },
         Request::Hits(told) => {
-            let hits = device.hits(&told.possible().map_err(|Impossible| IMPOSSIBLE)?);
+            let hits = device.hits(&told.possible()?);
             format!("0 {:02X} {}", hits, hits.count_ones())
         }
+        Request::Numbers => numbers(device),
         Request::Pins => {
             let [int, stat, gp1, gp2] = device.pins().map(u8::from);
             format!("int={} stat={} gp1={} gp2={}", int, stat, gp1, gp2)

@@ -1,8 +1,10 @@
 //! The model of `why`: all lines are done in silence but the last, a frame, which is explained.
 
-use crate::bus::{Event, Impossible, ToldFrame};
+use crate::bus::{Event, ToldFrame};
 use crate::device::{Device, Mode, CTRL0_WAKEUP};
 use crate::fate::Fate;
+use crate::frame::Frame;
+use crate::host::Refusal;
 use crate::request::Request;
 use crate::said::{Model, Said};
 use crate::script::{answer, Line, Lines};
@@ -22,7 +24,7 @@ const TABLE_4A: [[&str; 8]; 6] = [
 ];
 
 pub struct Why {
-    device: Device,
+    pub device: Device,
     lines: Lines,
     /// The latest line, until another one shows that it is not the last.
     held: Option<Line>,
@@ -96,22 +98,24 @@ impl Why {
         }
     }
 
-    /// Nobody asks the device after this, so that the event may as well be done to it.
     fn explain(&mut self, told: ToldFrame, acknowledged: bool) -> Vec<Said> {
-        let frame = match told.possible() {
-            Ok(frame) => frame,
-            Err(Impossible) => return vec![explained("8")],
-        };
+        let frame = told.possible();
+        let said = frame.and_then(|frame| self.explain_possible(frame, acknowledged));
+        said.unwrap_or_else(|number| vec![explained(&number.to_string())])
+    }
+
+    /// Nobody asks the device after this, so that the event may as well be done to it.
+    fn explain_possible(&mut self, frame: Frame, acknowledged: bool) -> Result<Vec<Said>, Refusal> {
         let seen = frame.filter_bytes();
         let mode = self.mode();
-        let fate = self.device.good_frame(frame, acknowledged);
+        let fate = self.device.good_frame(frame, acknowledged)?;
         let answer = explained(fate.word());
-        match fate {
+        Ok(match fate {
             Fate::A1 => vec![answer.with(mode.to_string())],
             Fate::A4 => iter::once(answer).chain(self.differences(seen)).collect(),
             Fate::QueuedOver(lost) => vec![answer.with(format!("lost: {}", lost))],
             _ => vec![answer],
-        }
+        })
     }
 
     /// Of each filter, where none matches.

@@ -1,4 +1,5 @@
--- An event's answer and the device after it (01, Numbers given back): 1 before 8, and a refusal changes nothing.
+-- An event's answer and the device after it (01, Numbers given back; 02, g)): 1, 8 and 12 in that order, and a refusal
+-- changes nothing.
 use mathlib.Core.List.{List, [], _∷_}
 use Prim.Native.Nat.{ℕ}
 use Rattle.base.specs.Pick.{pick, flag}
@@ -12,7 +13,7 @@ use Rattle.judged.specs.declared.Answer.{Answer}
 use Rattle.judged.specs.declared.Answer.the-variants.{Refused, Done, Arrived}
 use Rattle.events.specs.declared.Event.{Event}
 use Rattle.bus.specs.declared.types.Outcome.{Outcome}
-use Rattle.judged.specs.Judged.{impossible, said, brings}
+use Rattle.judged.specs.Judged.{impossible, said, noNumberLeft, brings}
 use Rattle.changed.specs.Changed.{arrival, after}
 
 -- 01's number for each answer
@@ -38,8 +39,9 @@ valuesOf (Arrived what) = arrivalValues what
 
 unfoldable pub answered : Device → Event → Brought → ℕ → Answer
 answered d e b set =
+    let told = said d b set in
     pick (proper d)
-    (pick (impossible d e) (Refused 8) (said d b set))
+    (pick (impossible d e) (Refused 8) (pick (noNumberLeft d told) (Refused 12) told))
     (Refused 1)
 
 -- what the event brings, and the filters that this hits, decide the answer

@@ -1,3 +1,4 @@
 pub mod Event
 pub mod Hits
+pub mod Numbers
 pub mod Pins

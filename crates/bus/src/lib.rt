@@ -3,6 +3,7 @@
 ghost use mathlib.Core.Path.{_≡_};
 ghost use Rattle.bus.specs.Event.{answered, answer, event};
 ghost use Rattle.bus.specs.Hits.{hits};
+ghost use Rattle.bus.specs.Numbers.{waitingNumber, waitingNumbers, numbers};
 ghost use Rattle.bus.specs.Pins.{pins};
 use chip::Device;
 use events::Event;
@@ -10,6 +11,7 @@ use frame::Header;
 use judged::Answer;
 use receive::Brought;
 use types::Hits;
+use types::Numbers;
 use types::Outcome;
 use types::Pins;
 
@@ -18,11 +20,17 @@ pub mod types;
 fn answered(d: Device, e: Event, b: Brought, hits: u8) -> Answer
     ensures { λ r. ⌜ r ≡ answered d e b hits ⌝ }
 {
+    let impossible = judged::impossible(d, e);
+    let a = judged::said(d, b, hits);
+    let spent = judged::no_number_left(d, a);
     if chip::proper(d) {
-        if judged::impossible(d, e) {
+        if impossible {
             return Answer::Refused(8);
         }
-        return judged::said(d, b, hits);
+        if spent {
+            return Answer::Refused(12);
+        }
+        return a;
     }
     Answer::Refused(1)
 }
@@ -76,6 +84,53 @@ pub fn hits(d: Device, h: Header, given: usize, payload: [u8; 8]) -> Hits
         return Hits { number: 0, set };
     }
     Hits { number: 1, set: 0 }
+}
+
+// The arrival number of the message so many behind the oldest, where one waits.
+fn waiting_number(d: Device, k: u8) -> u64
+    ensures { λ r. ⌜ r ≡ waitingNumber d k ⌝ }
+{
+    let places = d.serials.places;
+    let place = fifo::place(d.rx, k as u16);
+    if k < d.rx.count { places[place] } else { 0 }
+}
+
+fn waiting_numbers(d: Device) -> [u64; 8]
+    ensures { λ r. ⌜ r ≡ waitingNumbers d ⌝ }
+{
+    [
+        waiting_number(d, 0),
+        waiting_number(d, 1),
+        waiting_number(d, 2),
+        waiting_number(d, 3),
+        waiting_number(d, 4),
+        waiting_number(d, 5),
+        waiting_number(d, 6),
+        waiting_number(d, 7),
+    ]
+}
+
+// The arrival numbers, for the layer above: which of two like messages the next read takes.
+pub fn numbers(d: Device) -> Numbers
+    ensures { λ r. ⌜ r ≡ numbers d ⌝ }
+{
+    if chip::proper(d) {
+        let waiting = waiting_numbers(d);
+        return Numbers {
+            number: 0,
+            last: d.serials.last,
+            temp: d.serials.temp,
+            count: d.rx.count,
+            waiting,
+        };
+    }
+    Numbers {
+        number: 1,
+        last: 0,
+        temp: 0,
+        count: 0,
+        waiting: [0; 8],
+    }
 }
 
 // The four output pins.

@@ -1,5 +1,5 @@
 -- What an event that isn't refused changes (01, Bus events, and Modes and filters).
-use mathlib.Core.Bool.{Bool, true, false}
+use mathlib.Core.Bool.{Bool}
 use Prim.Native.Nat.{ℕ, _+_, _%_}
 use lib.Dec.{eqb}
 use Rattle.base.specs.Pick.{pick}
@@ -10,10 +10,9 @@ use Rattle.chip.specs.Parts.{with-counters, with-time, with-txenpin}
 use Rattle.chip.specs.State.{normal, unlessMonitor, bor}
 use Rattle.receive.specs.declared.Arrival.{Arrival}
 use Rattle.receive.specs.declared.Brought.{Brought}
-use Rattle.receive.specs.declared.Arrival.the-variants.{Queued, QueuedOver, A1, A2, A3, A4}
 use Rattle.flags.specs.Flags.{busError}
 use Rattle.modes.specs.Modes.{busQuiet, busActivity}
-use Rattle.receive.specs.Receive.{arrived}
+use Rattle.receive.specs.Receive.{reachesTemporary, arrived}
 use Rattle.flags.specs.Reset.{reset}
 use Rattle.transmit.specs.Transmit.{begun, stopped, transmitted}
 use Rattle.events.specs.declared.ErrorKind.{ErrorKind}
@@ -38,15 +37,6 @@ countedFrame c acting = pick (eqb acting normal) (goodFrame c) c
 -- a frame from the bus that reached the temporary buffer
 unfoldable pub heard : Device → Device
 heard d = with-counters d (countedFrame (d .counters) (d .acting))
-
--- "A1 to A3 leave the temporary buffer alone. A4 … and Queued put the frame there."
-unfoldable pub reachesTemporary : Arrival → Bool
-reachesTemporary Queued = true
-reachesTemporary (QueuedOver id extended) = true
-reachesTemporary A1 = false
-reachesTemporary A2 = false
-reachesTemporary A3 = false
-reachesTemporary A4 = true
 
 -- "Receive error: REC + 1."
 unfoldable pub countedReceiveError : Counters → ℕ → Counters

@@ -1,7 +1,7 @@
 // What an event that isn't refused changes.
 ghost use mathlib.Core.Path.{_≡_};
 ghost use Prim.Native.Nat.{_+_, _%_};
-ghost use Rattle.changed.specs.Changed.{errBit, countedFrame, heard, taken, reachesTemporary, countedReceiveError, receiveErrorMet};
+ghost use Rattle.changed.specs.Changed.{errBit, countedFrame, heard, taken, countedReceiveError, receiveErrorMet};
 ghost use Rattle.changed.specs.Changed.{dominantMet, countedTransmitError, transmitErrorMet, recessiveMet, ticked, pinSet, arrival, after};
 use chip::Device;
 use chip::MONITOR;
@@ -43,20 +43,6 @@ fn counted_frame(c: Counters, acting: u8) -> Counters
         counters::good_frame(c)
     } else {
         c
-    }
-}
-
-// Whether a good frame reaches the temporary buffer.
-fn reaches_temporary(what: Arrival) -> bool
-    ensures { λ r. ⌜ r ≡ reachesTemporary what ⌝ }
-{
-    match what {
-        Arrival::Queued => true,
-        Arrival::QueuedOver(_, _) => true,
-        Arrival::A1 => false,
-        Arrival::A2 => false,
-        Arrival::A3 => false,
-        Arrival::A4 => true,
     }
 }
 
@@ -179,7 +165,7 @@ fn taken(d: Device, own: bool) -> Device
 pub fn arrival(d: Device, b: Brought, hits: u8, what: Arrival) -> Device
     ensures { λ r. ⌜ r ≡ arrival d b hits what ⌝ }
 {
-    if reaches_temporary(what) {
+    if receive::reaches_temporary(what) {
         taken(receive::arrived(d, b, hits, what), b.own)
     } else {
         modes::bus_activity(d)

@@ -1,7 +1,7 @@
 -- The state after power-up, the modes, the control bits, and filters or masks as the match takes them.
 use mathlib.Core.Bool.{Bool, false, _||_}
 use mathlib.Core.List.{List, []}
-use Prim.Native.Nat.{ℕ, _/_}
+use Prim.Native.Nat.{ℕ, _-_, _/_, _^_}
 use lib.Dec.{eqb, ltb}
 use lib.ListN.{getD, replicate}
 use Rattle.base.specs.Bit.{isSet}
@@ -12,6 +12,7 @@ use Rattle.fifo.specs.Queue.{empty, none}
 use Rattle.chip.specs.declared.Device.{Device}
 use Rattle.chip.specs.declared.Pattern.{Pattern}
 use Rattle.chip.specs.declared.Registers.{Registers}
+use Rattle.chip.specs.declared.Serials.{Serials}
 
 -- 01, Modes and filters: "MODE 000 is normal, 001 loopback, 010 monitor, 011 sleep, 1xx initialization"
 abbrev pub normal : ℕ
@@ -64,6 +65,10 @@ freshRegisters = record {
   mtag = 0;
 }
 
+-- 02, g): arrival numbers are counted "from 1 after power-up": none was given, and no message carries one
+abbrev pub freshSerials : Serials
+freshSerials = record { last = 0; temp = 0; places = replicate 8 0 }
+
 abbrev pub zeros : Pattern
 zeros = record { bytes = replicate 6 0 }
 
@@ -71,6 +76,7 @@ unfoldable pub fresh : Device
 fresh = record {
   regs = freshRegisters;
   counters = zeroed;
+  serials = freshSerials;
   filters = replicate 8 zeros;
   masks = replicate 8 zeros;
   rx = empty;
@@ -113,6 +119,14 @@ filton d = isSet 4 (d .regs .ctrl1)
 -- the TX1M bit".
 unfoldable pub enabled : Device → Bool
 enabled d = txen d || (tx1m d || d .txenpin)
+
+-- 02, g): an arrival number has "64 bits"
+abbrev pub lastOfAll : ℕ
+lastOfAll = 2 ^ 64 - 1
+
+-- "the last number has been given"
+abbrev pub spent : Device → Bool
+spent d = eqb (d .serials .last) lastOfAll
 
 -- what stands past the eighth filter, which no bank has
 abbrev pub absent : Pattern

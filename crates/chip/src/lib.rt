@@ -1,6 +1,6 @@
 // The HI-3110's state, by value: what both doors read and change.
 ghost use mathlib.Core.Path.{_≡_};
-ghost use Rattle.chip.specs.State.{fresh, modeOf, resetBit, bor, wakeup, txen, tx1m, osm, filton, enabled, bank};
+ghost use Rattle.chip.specs.State.{fresh, modeOf, resetBit, bor, wakeup, txen, tx1m, osm, filton, enabled, spent, bank};
 ghost use Rattle.chip.specs.Proper.{registersInRange, sendingInRange, actingInRange, proper};
 use counters::Counters;
 use fifo::Fifo;
@@ -48,9 +48,20 @@ pub struct Registers {
     pub mtag: u8,
 }
 
+// The arrival numbers: of the frames that reach the temporary buffer, counted from 1.
+pub struct Serials {
+    // The last that was given. No reset touches it.
+    pub last: u64,
+    // That of the frame in the temporary receive buffer; 0 where there is none.
+    pub temp: u64,
+    // Those of the messages in the receive FIFO, each at its message's place.
+    pub places: [u64; 8],
+}
+
 pub struct Device {
     pub regs: Registers,
     pub counters: Counters,
+    pub serials: Serials,
     pub filters: [Pattern; 8],
     pub masks: [Pattern; 8],
     pub rx: Fifo,
@@ -95,9 +106,15 @@ pub fn fresh() -> Device
         busoff: false,
         groups: 0,
     };
+    let serials = Serials {
+        last: 0,
+        temp: 0,
+        places: [0; 8],
+    };
     Device {
         regs,
         counters,
+        serials,
         filters: bank,
         masks: bank,
         rx: none,
@@ -175,6 +192,13 @@ pub fn enabled(d: Device) -> bool
     ensures { λ r. ⌜ r ≡ enabled d ⌝ }
 {
     txen(d) | tx1m(d) | d.txenpin
+}
+
+// Whether the last arrival number of 64 bits has been given.
+pub fn spent(d: Device) -> bool
+    ensures { λ r. ⌜ r ≡ spent d ⌝ }
+{
+    d.serials.last == u64::MAX
 }
 
 // Filters or masks as the match takes them.

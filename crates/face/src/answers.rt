@@ -4,6 +4,7 @@ use crate::text::bytes;
 use crate::text::decimal;
 use crate::text::hex;
 use crate::text::hex_number;
+use crate::text::numbered;
 use crate::text::pin;
 use crate::text::raw;
 use crate::text::text;
@@ -44,7 +45,7 @@ fn expected(out: &mut [u8], at: usize, e: Expected) -> usize {
         Expected::Request => text(
             out,
             at,
-            b"spi, frame, hits, rxerr, txerr, dominant, begin, done, lost, recessive, quiet, activity, mr, ticks, txen or pins",
+            b"spi, frame, hits, rxerr, txerr, dominant, begin, done, lost, recessive, quiet, activity, mr, ticks, txen, pins or numbers",
         ),
         Expected::Byte => text(out, at, b"a byte as two hex digits, as 0A"),
         Expected::Lent => text(out, at, b"a reply buffer of 0 to 16 bytes, as spi/14"),
@@ -171,6 +172,34 @@ fn pins(d: Device, out: &mut [u8], at: usize) -> usize {
     raw(out, n, b'\n')
 }
 
+// The arrival numbers of the messages that wait, oldest first: `12,13,17`, or `-` where there are none.
+fn waiting(out: &mut [u8], at: usize, serials: [u64; 8], count: u8) -> usize {
+    if count == 0 {
+        return raw(out, at, b'-');
+    }
+    let mut n = decimal(out, at, serials[0]);
+    let mut k: usize = 1;
+    while k < 8 {
+        if count as usize <= k {
+            return n;
+        }
+        n = numbered(out, n, b",", serials[k]);
+        k += 1;
+    }
+    n
+}
+
+// The device comes from a fresh one, so that no number but 0 is given.
+fn numbers(d: Device, out: &mut [u8], at: usize) -> usize {
+    let told = bus::numbers(d);
+    let serials = told.waiting;
+    let n = numbered(out, at, b"last=", told.last);
+    let n = numbered(out, n, b" temp=", told.temp);
+    let n = text(out, n, b" waiting=");
+    let n = waiting(out, n, serials, told.count);
+    raw(out, n, b'\n')
+}
+
 // A set of filters as a byte, and how many it has.
 fn set(out: &mut [u8], at: usize, filters: u8) -> usize {
     let n = raw(out, at, b' ');
@@ -205,6 +234,10 @@ pub(crate) fn answer(d: Device, l: Line, number: u64, out: &mut [u8], at: usize)
         Asked::Happens(event) => happens(d, event, given, out, at),
         Asked::Pins => {
             let used = pins(d, out, at);
+            Turn { device: d, used }
+        }
+        Asked::Numbers => {
+            let used = numbers(d, out, at);
             Turn { device: d, used }
         }
         Asked::Hits(h, n) => {

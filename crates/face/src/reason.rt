@@ -3,6 +3,7 @@
 use crate::answers::word;
 use crate::device;
 use crate::text::decimal;
+use crate::text::numbered;
 use crate::text::raw;
 use crate::text::text;
 use chip::Device;
@@ -50,30 +51,25 @@ fn answer(out: &mut [u8], at: usize, d: Device, a: Answer) -> usize {
     }
 }
 
-fn numbered(out: &mut [u8], at: usize, name: &[u8], number: u8) -> usize {
-    let n = text(out, at, name);
-    decimal(out, n, number as u64)
-}
-
 fn field(out: &mut [u8], at: usize, f: Field) -> usize {
     match f {
-        Field::Id(i) => numbered(out, at, b"ID", i),
+        Field::Id(i) => numbered(out, at, b"ID", i as u64),
         Field::Rtr => text(out, at, b"RTR"),
         Field::Ide => text(out, at, b"IDE"),
-        Field::Data(i) => numbered(out, at, b"data byte ", i),
+        Field::Data(i) => numbered(out, at, b"data byte ", i as u64),
         Field::Unnamed => text(out, at, b"no field"),
     }
 }
 
 fn place(out: &mut [u8], at: usize, filter: u8, byte: u8, bit: u8) -> usize {
-    let n = numbered(out, at, b"filter ", filter);
-    let n = numbered(out, n, b": byte ", byte);
-    numbered(out, n, b" bit ", bit)
+    let n = numbered(out, at, b"filter ", filter as u64);
+    let n = numbered(out, n, b": byte ", byte as u64);
+    numbered(out, n, b" bit ", bit as u64)
 }
 
 fn values(out: &mut [u8], at: usize, p: Place) -> usize {
-    let n = numbered(out, at, b": the filter asks for ", p.wanted);
-    let n = numbered(out, n, b", the frame has ", p.came);
+    let n = numbered(out, at, b": the filter asks for ", p.wanted as u64);
+    let n = numbered(out, n, b", the frame has ", p.came as u64);
     text(out, n, b")")
 }
 

@@ -71,6 +71,12 @@ pub(crate) fn decimal(out: &mut [u8], at: usize, n: u64) -> usize {
     text(out, at, &digits[..k])
 }
 
+// A number behind its name, as `byte 4`.
+pub(crate) fn numbered(out: &mut [u8], at: usize, name: &[u8], number: u64) -> usize {
+    let n = text(out, at, name);
+    decimal(out, n, number)
+}
+
 // A space before each byte.
 pub(crate) fn bytes(out: &mut [u8], at: usize, b: [u8; 16], count: usize) -> usize {
     let mut n = at;

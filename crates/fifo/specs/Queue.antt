@@ -25,9 +25,13 @@ absent = record { bytes = [] }
 abbrev pub place : Fifo → ℕ → ℕ
 place q k = (q .first + k) % 8
 
+-- What stands in so many of a ring's places, from a first one on: of messages, or of what each of them carries.
+abbrev pub ring : {A : Type 0} → List A → A → ℕ → ℕ → List A
+ring places none first count = tabulate (λ k. getD places ((first + k) % 8) none) 0 count
+
 -- What waits, oldest first.
 abbrev pub waiting : Fifo → List Message
-waiting q = tabulate (λ k. getD (q .items) (place q k) absent) 0 (q .count)
+waiting q = ring (q .items) absent (q .first) (q .count)
 
 -- "eight messages wait", and none, by how many there are
 abbrev pub eightWait : ℕ → Bool
@@ -51,6 +55,10 @@ put q m =
 -- the place of the latest message: seven steps on from the place behind it, which is one step back
 abbrev pub latestPlace : Fifo → ℕ
 latestPlace q = place q (q .count + 7)
+
+-- the place that a message takes: behind the others or, where eight wait, the latest one's
+unfoldable pub placeOver : Fifo → ℕ
+placeOver q = pick (full q) (latestPlace q) (place q (q .count))
 
 -- 000: "When the FIFO is full (8 completed messages received), the next received message will overwrite the latest
 -- message stored in the FIFO."

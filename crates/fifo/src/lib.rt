@@ -1,6 +1,6 @@
 // A queue of up to eight messages. The receive FIFO, the transmit FIFO and the transmit history are each one.
 ghost use mathlib.Core.Path.{_≡_};
-ghost use Rattle.fifo.specs.Queue.{empty, eightWait, noneWaits, full, isEmpty, put, putOver, take, next, latestPlace, latest, inRange};
+ghost use Rattle.fifo.specs.Queue.{empty, eightWait, noneWaits, full, isEmpty, place, put, latestPlace, placeOver, putOver, take, next, latest, inRange};
 
 // Sixteen bytes, as 000's Table 5 lays out a message; in a message to send, byte 1 is its tag.
 pub struct Message {
@@ -50,6 +50,13 @@ pub fn is_empty(q: Fifo) -> bool
     none_waits(q.count)
 }
 
+// The place so many steps behind the oldest message.
+pub fn place(q: Fifo, steps: u16) -> usize
+    ensures { λ r. ⌜ r ≡ place q steps ⌝ }
+{
+    (q.first as usize + steps as usize) % 8
+}
+
 // The message comes last. A ninth is not stored.
 pub fn put(q: Fifo, m: Message) -> Fifo
     ensures { λ r. ⌜ r ≡ put q m ⌝ }
@@ -58,9 +65,9 @@ pub fn put(q: Fifo, m: Message) -> Fifo
     if full(q) {
         q
     } else {
-        let place = (q.first as usize + count as usize) % 8;
+        let behind = place(q, count as u16);
         let mut p = q;
-        p.items[place] = m;
+        p.items[behind] = m;
         p.count = count + 1;
         p
     }
@@ -70,8 +77,18 @@ pub fn put(q: Fifo, m: Message) -> Fifo
 fn latest_place(q: Fifo) -> usize
     ensures { λ r. ⌜ r ≡ latestPlace q ⌝ }
 {
-    let steps = q.count as usize + 7;
-    (q.first as usize + steps) % 8
+    place(q, q.count as u16 + 7)
+}
+
+// The place that a message takes: behind the others or, where eight wait, the latest one's.
+pub fn place_over(q: Fifo) -> usize
+    ensures { λ r. ⌜ r ≡ placeOver q ⌝ }
+{
+    if full(q) {
+        latest_place(q)
+    } else {
+        place(q, q.count as u16)
+    }
 }
 
 // The message comes last; where eight wait, it takes the place of the latest.
@@ -79,9 +96,9 @@ pub fn put_over(q: Fifo, m: Message) -> Fifo
     ensures { λ r. ⌜ r ≡ putOver q m ⌝ }
 {
     if full(q) {
-        let place = latest_place(q);
+        let last = latest_place(q);
         let mut p = q;
-        p.items[place] = m;
+        p.items[last] = m;
         p
     } else {
         put(q, m)
@@ -96,7 +113,7 @@ pub fn take(q: Fifo) -> Fifo
     if is_empty(q) {
         q
     } else {
-        let first = (q.first as usize + 1) % 8;
+        let first = place(q, 1);
         Fifo {
             first: first as u8,
             count: count - 1,
@@ -109,16 +126,16 @@ pub fn take(q: Fifo) -> Fifo
 pub fn next(q: Fifo) -> Message
     ensures { λ r. ⌜ r ≡ next q ⌝ }
 {
-    let place = (q.first % 8) as usize;
-    q.items[place]
+    let first = place(q, 0);
+    q.items[first]
 }
 
 // The latest message.
 pub fn latest(q: Fifo) -> Message
     ensures { λ r. ⌜ r ≡ latest q ⌝ }
 {
-    let place = latest_place(q);
-    q.items[place]
+    let last = latest_place(q);
+    q.items[last]
 }
 
 // Whether the count and the place are ones that a queue of eight can have.

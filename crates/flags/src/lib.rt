@@ -56,5 +56,7 @@ pub fn reset(d: Device) -> Device
     e.masks = masks;
     let pin = d.txenpin;
     e.txenpin = pin;
+    let last = d.serials.last;
+    e.serials.last = last;
     e
 }

@@ -1,4 +1,4 @@
--- Which events are answered 8, and what the others say (01, Bus events, and Numbers given back).
+-- Which events are answered 8 or 12, and what the others say (01, Bus events, and Numbers given back; 02, g)).
 use mathlib.Core.Bool.{Bool, true, false, not, _&&_, _||_}
 use mathlib.Core.List.{List}
 use Prim.Native.Nat.{ℕ}
@@ -8,14 +8,14 @@ use Rattle.base.specs.Pick.{pick}
 use Rattle.frame.specs.declared.Header.{Header}
 use Rattle.frame.specs.Length.{possible, dataFits}
 use Rattle.chip.specs.declared.Device.{Device}
-use Rattle.chip.specs.State.{loopback, monitor, sleep, initialization, idle}
+use Rattle.chip.specs.State.{loopback, monitor, sleep, initialization, idle, spent}
 use Rattle.receive.specs.declared.Arrival.{Arrival}
 use Rattle.receive.specs.declared.Brought.{Brought}
 use Rattle.receive.specs.declared.Arrival.the-variants.{A1, A2, A3}
-use Rattle.receive.specs.Receive.{filtersAndRoom, ownFrame}
+use Rattle.receive.specs.Receive.{filtersAndRoom, reachesTemporary, ownFrame}
 use Rattle.transmit.specs.Transmit.{canBegin}
 use Rattle.judged.specs.declared.Answer.{Answer}
-use Rattle.judged.specs.declared.Answer.the-variants.{Done, Arrived}
+use Rattle.judged.specs.declared.Answer.the-variants.{Refused, Done, Arrived}
 use Rattle.events.specs.declared.Event.{Event}
 use Rattle.events.specs.declared.Event.the-variants.{GoodFrame, ReceiveError, DominantBit, TransmitError, Begun, Completed}
 use Rattle.events.specs.declared.Event.the-variants.{ArbitrationLost, ElevenRecessive, BusQuiet, BusActivity, Ticks, TxenPin}
@@ -76,6 +76,16 @@ reason d b set =
 -- what an event says that isn't refused, by the filters that its frame hits
 unfoldable pub said : Device → Brought → ℕ → Answer
 said d b set = pick (b .comes) (Arrived (reason d b set)) Done
+
+-- 02, g): "Each good frame that is not answered A1 to A3 gets an arrival number", and so does a loopback completion
+unfoldable pub givesNumber : Answer → Bool
+givesNumber (Refused n) = false
+givesNumber Done = false
+givesNumber (Arrived what) = reachesTemporary what
+
+-- 12: "a good frame (or loopback completion) to be numbered when the last number has been given"
+unfoldable pub noNumberLeft : Device → Answer → Bool
+noNumberLeft d a = givesNumber a && spent d
 
 -- "good frame (with acknowledged or not)"
 unfoldable pub busFrame : Header → Bool → List ℕ → Brought

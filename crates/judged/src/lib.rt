@@ -1,7 +1,8 @@
 // Which events can't be, and what the others are answered.
 ghost use mathlib.Core.Path.{_≡_};
 ghost use Rattle.judged.specs.Judged.{quietMode, noErrors, runs, impossibleFrame, impossible};
-ghost use Rattle.judged.specs.Judged.{takesNoFrames, unacknowledged, reason, said, busFrame, nothing, brings};
+ghost use Rattle.judged.specs.Judged.{takesNoFrames, unacknowledged, reason, said, givesNumber, noNumberLeft};
+ghost use Rattle.judged.specs.Judged.{busFrame, nothing, brings};
 use chip::Device;
 use chip::IDLE;
 use chip::INITIALIZATION;
@@ -14,7 +15,7 @@ use receive::Arrival;
 use receive::Brought;
 
 pub enum Answer {
-    // 1 or 8.
+    // 1, 8 or 12.
     Refused(u8),
     Done,
     // A good frame, or an own message that came back in loopback, and what became of it.
@@ -117,6 +118,24 @@ pub fn said(d: Device, b: Brought, hits: u8) -> Answer
     } else {
         Answer::Done
     }
+}
+
+// Whether an answer gives a frame its arrival number.
+fn gives_number(a: Answer) -> bool
+    ensures { λ r. ⌜ r ≡ givesNumber a ⌝ }
+{
+    match a {
+        Answer::Refused(_) => false,
+        Answer::Done => false,
+        Answer::Arrived(what) => receive::reaches_temporary(what),
+    }
+}
+
+// 12: the frame is to be numbered, and the last number has been given.
+pub fn no_number_left(d: Device, a: Answer) -> bool
+    ensures { λ r. ⌜ r ≡ noNumberLeft d a ⌝ }
+{
+    gives_number(a) & chip::spent(d)
 }
 
 fn bus_frame(header: Header, acknowledged: bool, payload: [u8; 8]) -> Brought

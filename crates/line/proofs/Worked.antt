@@ -5,7 +5,7 @@ use mathlib.Core.List.{List, [], _∷_, map}
 use Prim.Native.String.{String}
 use Rattle.events.specs.declared.ErrorKind.the-variants.{Crc, Form}
 use Rattle.events.specs.declared.Event.the-variants.{GoodFrame, ReceiveError, TransmitError, ElevenRecessive, Ticks, TxenPin}
-use Rattle.line.specs.declared.Asked.the-variants.{Nothing, Transfer, Happens, Pins, Hits, Unreadable}
+use Rattle.line.specs.declared.Asked.the-variants.{Nothing, Transfer, Happens, Pins, Numbers, Hits, Unreadable}
 use Rattle.line.specs.declared.Expected.the-variants.{Request, Byte, Lent, Identifier, StdOrExt, DataOrRemote, LengthCode}
 use Rattle.line.specs.declared.Expected.the-variants.{AckOrNoack, CountedOrExempt, EndOfLine}
 use Rattle.line.specs.Numbers.{digitOf, isNumber, valueOf, isByte}
@@ -68,6 +68,8 @@ lines =
     "hits 1 std data 2 ack AA 55" ∷
     "txerr form" ∷
     "pins 1" ∷
+    "numbers" ∷
+    "numbers 1" ∷
     []
 
 pub worked : map (λ (t : String). readLine (ascii t)) lines
@@ -97,6 +99,8 @@ pub worked : map (λ (t : String). readLine (ascii t)) lines
     unreadable LengthCode (ascii "two") ∷
     unreadable Byte (ascii "ack") ∷
     plain (Unreadable CountedOrExempt) ∷
+    unreadable EndOfLine (ascii "1") ∷
+    plain Numbers ∷
     unreadable EndOfLine (ascii "1") ∷
     []
 unfolding digitOf isNumber valueOf isByte ending choiceOf transferOf sizedOf frameData frameAck hitsData frameRest frameCode frameRemote frameKind frameOf kindOf rxerrOf txerrCounted txerrOf ticksOf txenOf aloneOf loneOf namedOf requestOf readLine

@@ -17,7 +17,7 @@ use Rattle.line.specs.declared.Expected.the-variants.{Request, Byte, Len
 use Rattle.line.specs.declared.Expected.the-variants.{LengthCode, AckOrNoack, Error, CountedOrExempt, Count}
 use Rattle.line.specs.declared.Expected.the-variants.{ZeroOrOne, EndOfLine}
 use Rattle.line.specs.declared.Asked.{Asked}
-use Rattle.line.specs.declared.Asked.the-variants.{Nothing, Transfer, Happens, Pins, Hits, Unreadable}
+use Rattle.line.specs.declared.Asked.the-variants.{Nothing, Transfer, Happens, Pins, Numbers, Hits, Unreadable}
 use Rattle.line.specs.declared.Line.{Line}
 use Rattle.line.specs.declared.data.Data.{Data}
 use Rattle.line.specs.declared.words.Choice.{Choice}
@@ -175,6 +175,7 @@ alones =
     ∷ (ascii "activity", Asks (Happens BusActivity))
     ∷ (ascii "mr", Asks (Happens MrPin))
     ∷ (ascii "pins", Asks Pins)
+    ∷ (ascii "numbers", Asks Numbers)
     ∷ []
 
 unfoldable pub aloneOf : List ℕ → Alone

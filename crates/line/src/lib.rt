@@ -40,6 +40,8 @@ pub enum Asked {
     Transfer(u8),
     Happens(Event),
     Pins,
+    // The arrival numbers.
+    Numbers,
     // Which filters a frame hits: its header, and how many data bytes the line has.
     Hits(Header, usize),
     Unreadable(Expected),

@@ -82,6 +82,8 @@ fn alone_of(word: &[u8]) -> Alone
         Alone::Asks(Asked::Happens(Event::MrPin))
     } else if is(word, b"pins") {
         Alone::Asks(Asked::Pins)
+    } else if is(word, b"numbers") {
+        Alone::Asks(Asked::Numbers)
     } else {
         Alone::Unknown
     }

@@ -80,8 +80,14 @@ module _ (M : Type 1) where
   pub fifo·is-empty : OneResult M fifo.is_empty.ended fifo.is_empty.spec
   fifo·is-empty = result fifo.is_empty.clauses (λ _. Queue.isEmpty) refl
 
+  pub fifo·place : OneResult M fifo.place.ended fifo.place.spec
+  fifo·place = result fifo.place.clauses (λ _. Queue.place) refl
+
   pub fifo·put : OneResult M fifo.put.ended fifo.put.spec
   fifo·put = result fifo.put.clauses (λ _. Queue.put) refl
+
+  pub fifo·place-over : OneResult M fifo.place_over.ended fifo.place_over.spec
+  fifo·place-over = result fifo.place_over.clauses (λ _. Queue.placeOver) refl
 
   pub fifo·put-over : OneResult M fifo.put_over.ended fifo.put_over.spec
   fifo·put-over = result fifo.put_over.clauses (λ _. Queue.putOver) refl

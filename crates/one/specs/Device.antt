@@ -45,6 +45,9 @@ module _ (M : Type 1) where
   pub chip·enabled : OneResult M chip.enabled.ended chip.enabled.spec
   chip·enabled = result chip.enabled.clauses (λ _. State.enabled) refl
 
+  pub chip·spent : OneResult M chip.spent.ended chip.spent.spec
+  chip·spent = result chip.spent.clauses (λ _. State.spent) refl
+
   pub chip·bank : OneResult M chip.bank.ended chip.bank.spec
   chip·bank = result chip.bank.clauses (λ _. State.bank) refl
 

@@ -13,6 +13,7 @@ use Rattle.judged.specs.Judged
 use Rattle.changed.specs.Changed
 use Rattle.bus.specs.Event
 use Rattle.bus.specs.Hits
+use Rattle.bus.specs.Numbers
 use Rattle.bus.specs.Pins
 use Rattle.why.specs.Why
 use Rattle.why.specs.Fields
@@ -38,6 +39,9 @@ module _ (M : Type 1) where
 
   pub receive·filters-and-room : OneResult M receive.filters_and_room.ended receive.filters_and_room.spec
   receive·filters-and-room = result receive.filters_and_room.clauses (λ _. Receive.filtersAndRoom) refl
+
+  pub receive·reaches-temporary : OneResult M receive.reaches_temporary.ended receive.reaches_temporary.spec
+  receive·reaches-temporary = result receive.reaches_temporary.clauses (λ _. Receive.reachesTemporary) refl
 
   pub receive·own-frame : OneResult M receive.own_frame.ended receive.own_frame.spec
   receive·own-frame = result receive.own_frame.clauses (λ _. Receive.ownFrame) refl
@@ -80,6 +84,9 @@ module _ (M : Type 1) where
   pub judged·said : OneResult M judged.said.ended judged.said.spec
   judged·said = result judged.said.clauses (λ _. Judged.said) refl
 
+  pub judged·no-number-left : OneResult M judged.no_number_left.ended judged.no_number_left.spec
+  judged·no-number-left = result judged.no_number_left.clauses (λ _. Judged.noNumberLeft) refl
+
   -- ---- changed
   pub changed·arrival : OneResult M changed.arrival.ended changed.arrival.spec
   changed·arrival = result changed.arrival.clauses (λ _. Changed.arrival) refl
@@ -96,6 +103,9 @@ module _ (M : Type 1) where
 
   pub bus·hits : OneResult M bus.hits.ended bus.hits.spec
   bus·hits = result bus.hits.clauses (λ _. Hits.hits) refl
+
+  pub bus·numbers : OneResult M bus.numbers.ended bus.numbers.spec
+  bus·numbers = result bus.numbers.clauses (λ _. Numbers.numbers) refl
 
   pub bus·pins : OneResult M bus.pins.ended bus.pins.spec
   bus·pins = result bus.pins.clauses (λ _. Pins.pins) refl

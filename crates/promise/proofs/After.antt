@@ -16,7 +16,7 @@ use Rattle.chip.specs.declared.Device.{Device}
 use Rattle.chip.specs.State.{fresh}
 use Rattle.drawn.specs.Drawn.{int, stat, gp}
 use Rattle.events.specs.declared.Event.{Event}
-use Rattle.judged.specs.Judged.{impossible}
+use Rattle.judged.specs.Judged.{impossible, noNumberLeft}
 use Rattle.bus.specs.Event.{numberOf, valuesOf}
 use Rattle.bus.specs.Hits.{hits}
 use Rattle.bus.specs.Pins.{pins}
@@ -27,6 +27,7 @@ use Rattle.refused.specs.Refused.{findsFull, findsNone}
 use Rattle.shown.specs.Shown.{shows}
 use Rattle.promise.specs.Promises.{EachAnswerIsDue, SettingsAreThoseWritten, CountersAreTheRulesSum, TheTimeTagIsTheTicks, ErrIsTheKindsSeen}
 use Rattle.promise.specs.Promises.{IntfIsTheFlagsRaised, PinsShowTheRecords, OnlyTheReplacedAreLost, EachLossIsTold, FieldsStandAsTheyArrived, OwnMessagesAreThoseWritten}
+use Rattle.promise.specs.Promises.{TheLastNumberCountsTheArrivals, EachCarriesItsNumber, TheNumbersRise, NoTwoAreAlike, AReadTakesTheFirst, TheNumbersAreTold}
 use Rattle.promise.specs.Promises.{TheAnswersKeepTheRecords, TheFiltersAreToldAsWritten, AnyDeviceGoesOnSo}
 use Rattle.promise.specs.Sequence.{Input, spi, wire, Given, Step, shipped as step, number, values, fate, done, run, conversation}
 use Rattle.promise.specs.Commands.{lengthsOf, transferFits}
@@ -34,7 +35,7 @@ use Rattle.promise.specs.Own.{messageFits}
 use Rattle.promise.specs.Numbers.{situation, applies, numberDue}
 use Rattle.promise.specs.Due.{Due, situationOf}
 use Rattle.promise.specs.Held.{Pinned, Holds}
-use Rattle.promise.specs.After.{recorded, LosesAsTold}
+use Rattle.promise.specs.After.{recorded, LosesAsTold, TakesFirst}
 use Rattle.promise.specs.Arrivals.{valuesDue}
 use Rattle.promise.specs.Ledger.{kept as kept-in}
 use Rattle.promise.specs.Noted.{noted, byTheRules, byTheAnswers, happened}
@@ -50,6 +51,7 @@ use Rattle.promise.proofs.Held.{held-in, held-kept, kept-held}
 use Rattle.promise.proofs.Kept.{Kept, fresh-kept, situation-same}
 use Rattle.promise.proofs.Losses.{losses-told}
 use Rattle.promise.proofs.Lowest.{lowest-none}
+use Rattle.promise.proofs.Numbering.{rising, distinct, listed-in, takes-first}
 use Rattle.promise.proofs.Proper.{stays, fresh-in}
 use Rattle.promise.proofs.Queues.{taken-waits}
 use Rattle.promise.proofs.Questions.{told-kept}
@@ -78,9 +80,9 @@ module _ (d : Device) (r : Records) (range : InRange d) (h : Kept d r) where
 
     module _ (row : Row) (at : lookup rows (byte bytes 1) ≡ At row) (is : 0 ≡ numberDue (situationOf r) a-transfer) where
       -- no number of 01's table applies
-      unsaid : (n : ℕ) → 1 ≤ n → n < 9 → applies (situation d) a-transfer n ≡ false
+      unsaid : (n : ℕ) → 1 ≤ n → n < 13 → applies (situation d) a-transfer n ≡ false
       unfolding numberDue
-      unsaid n = lowest-none (applies (situation d) a-transfer) 8 1 n (omega arith) (ap (λ s. numberDue s a-transfer) (situation-same d r range h) ∙ sym is)
+      unsaid n = lowest-none (applies (situation d) a-transfer) 12 1 n (omega arith) (ap (λ s. numberDue s a-transfer) (situation-same d r range h) ∙ sym is)
 
       some : eqb (length bytes) 0 ≡ false
       some = or-left (eqb (length bytes) 0) _ (unsaid 3 (omega arith) (omega arith))
@@ -130,11 +132,11 @@ module _ (d : Device) (r : Records) (range : InRange d) (h : Kept d r) where
     unfolding numberOf valuesOf
     refused-event-agrees n some is = (rw some h, (is, rw (← is, some)))
 
-    done-event-agrees : impossible d e ≡ false → number (doneEvent d e payload (saidOf d e payload) .given) ≡ numberDue (situationOf r) an-event
+    done-event-agrees : impossible d e ≡ false → noNumberLeft d (saidOf d e payload) ≡ false → number (doneEvent d e payload (saidOf d e payload) .given) ≡ numberDue (situationOf r) an-event
         → Agrees an-event (doneEvent d e payload (saidOf d e payload))
-    done-event-agrees can is =
+    done-event-agrees can left is =
         let number-is = number-of-answer d e payload (saidOf d e payload) ∙ said-done d _ _ in
-        let agrees = event-agrees d r h (count-below (d .rx) (range .0)) e payload can in
+        let agrees = event-agrees d r h (count-below (d .rx) (range .0)) e payload can left in
         (rw number-is (agrees .0), (is, rw (← is, number-is) (agrees .1)))
 
     event-kept : Agrees an-event (step d an-event)
@@ -184,11 +186,14 @@ module _ (d : Device) (r : Records) (h : Holds d r) where
   losses-in : LosesAsTold step d r
   losses-in i = losses-told d r (step d i) h i (holds-on i) (due-in i)
 
+  takes-in : TakesFirst step d r
+  takes-in i = takes-first d r (step d i) i h (holds-on i)
+
   told-in : Told hits d r
   told-in = told-kept d r range kept
 
 pub onward : AnyDeviceGoesOnSo
-onward d r h = (pinned-in d r h, due-in d r h, holds-on d r h, losses-in d r h, told-in d r h)
+onward d r h = (pinned-in d r h, due-in d r h, holds-on d r h, losses-in d r h, takes-in d r h, told-in d r h, listed-in d r h)
 
 -- ---- along a sequence
 
@@ -227,6 +232,24 @@ whole is = always is .whole
 
 pub losses : EachLossIsTold
 losses is = losses-in (run step fresh is) (recorded step is) (always is)
+
+pub last-counts : TheLastNumberCountsTheArrivals
+last-counts is = always is .last
+
+pub carries : EachCarriesItsNumber
+carries is = always is .carries
+
+pub rise : TheNumbersRise
+rise is = rising (run step fresh is) (recorded step is) (always is)
+
+pub no-two : NoTwoAreAlike
+no-two is = distinct (run step fresh is) (recorded step is) (always is)
+
+pub reads-first : AReadTakesTheFirst
+reads-first is = takes-in (run step fresh is) (recorded step is) (always is)
+
+pub numbers-told : TheNumbersAreTold
+numbers-told is = listed-in (run step fresh is) (recorded step is) (always is)
 
 pub as-arrived : FieldsStandAsTheyArrived
 as-arrived is = always is .arrived
@@ -267,4 +290,4 @@ recorded-more is i = noted-more (noted byTheRules) fresh start is i
 -- how many were taken and how many wait
 pub taken-and-left : (is : List Input)
     → length (recorded step is .ledger .taken) + run step fresh is .rx .count ≡ length (kept-in (recorded step is .ledger))
-taken-and-left is = taken-waits (run step fresh is .rx) (recorded step is .ledger) (kept (run step fresh is) (recorded step is) (always is) .3 .2)
+taken-and-left is = taken-waits (run step fresh is .rx) (run step fresh is .serials .places) (recorded step is .ledger) (kept (run step fresh is) (recorded step is) (always is) .3 .2)

@@ -9,20 +9,25 @@ use lib.Dec.{eqb}
 use lib.ListN.{length, drop}
 use Rattle.base.specs.Bit.{byte}
 use Rattle.base.specs.Pick.{pick}
+use Rattle.fifo.specs.Queue.{full, latest}
 use Rattle.frame.specs.Length.{possible}
+use Rattle.frame.specs.Received.{headerIn}
 use Rattle.chip.specs.declared.Device.{Device}
 use Rattle.chip.specs.Proper.{proper}
-use Rattle.chip.specs.State.{idle, enabled}
+use Rattle.chip.specs.State.{loopback, idle, filton, enabled, spent}
 use Rattle.transmit.specs.Transmit.{sends, canBegin}
 use Rattle.receive.specs.declared.Arrival.{Arrival}
+use Rattle.receive.specs.declared.Arrival.the-variants.{Queued, QueuedOver, A1, A2, A3, A4}
 use Rattle.receive.specs.declared.Brought.{Brought}
+use Rattle.receive.specs.Receive.{overLatest, filtersAndRoom, reachesTemporary, ownFrame}
 use Rattle.events.specs.declared.Event.{Event}
 use Rattle.events.specs.declared.Event.the-variants.{GoodFrame, ReceiveError, DominantBit, TransmitError, Begun, Completed}
 use Rattle.events.specs.declared.Event.the-variants.{ArbitrationLost, ElevenRecessive, BusQuiet, BusActivity, Ticks, TxenPin, MrPin}
 use Rattle.events.specs.declared.Event.the-variants.{Unknown}
 use Rattle.judged.specs.declared.Answer.{Answer}
 use Rattle.judged.specs.declared.Answer.the-variants.{Refused as RefusedEvent, Done, Arrived}
-use Rattle.judged.specs.Judged.{quietMode, noErrors, runs, impossibleFrame, impossible, reason, said}
+use Rattle.judged.specs.Judged.{quietMode, noErrors, runs, impossibleFrame, impossible, takesNoFrames, unacknowledged, reason, said, givesNumber, noNumberLeft}
+use Rattle.judged.specs.Judged.{busFrame, nothing, brings}
 use Rattle.bus.specs.Event.{answered as answeredBy, answer, event, numberOf}
 use Rattle.commands.specs.declared.Found.{Found}
 use Rattle.commands.specs.declared.Found.the-variants.{At, Nothing}
@@ -36,7 +41,7 @@ use Rattle.promise.specs.Promises.{EveryInputIsAnswered, TheFirstNumberI
 use Rattle.promise.specs.Sequence.{Input, spi, wire, shipped as step, number}
 use Rattle.promise.specs.Commands.{transferFits}
 use Rattle.promise.specs.Ranges.{deviceInRange}
-use Rattle.promise.specs.Numbers.{situation, applies, cannotBe, numberDue, refuses, Fits, numberGiven, Untouched}
+use Rattle.promise.specs.Numbers.{situation, applies, cannotBe, getsNumber, numberDue, refuses, Fits, numberGiven, Untouched}
 use Rattle.promise.proofs.Ranges.{proper-same}
 use Rattle.promise.proofs.Rows.{asked-same, no-command}
 use Rattle.promise.proofs.Steps.{by-transfer, by-event, saidOf, outcomeOf}
@@ -139,19 +144,73 @@ told-out d e payload (Arrived what) = refl
 pub number-of-answer : (d : Device) (e : Event) (payload : List ℕ) (a : Answer) → numberOf (outcomeOf d e payload a .answer) ≡ numberOf a
 number-of-answer d e payload a = ap numberOf (told-out d e payload a)
 
-answer-number : (p q : Bool) (a : Answer) → numberOf a ≡ 0
-    → numberOf (pick p (pick q (RefusedEvent 8) a) (RefusedEvent 1)) ≡ pick (not p) 1 (pick q 8 0)
+-- ---- 12
+
+-- a frame that the mode takes reaches the temporary buffer, whatever filters and room say
+room-reaches : (t full : Bool) (id : ℕ) (extended : Bool) → reachesTemporary (pick t A4 (pick full (QueuedOver id extended) Queued)) ≡ true
+unfolding reachesTemporary
+room-reaches true full id extended = refl
+room-reaches false true id extended = refl
+room-reaches false false id extended = refl
+
+pub filters-reach : (d : Device) (set : ℕ) → reachesTemporary (filtersAndRoom d set) ≡ true
+unfolding filtersAndRoom overLatest
+filters-reach d set =
+    let lost = headerIn (latest (d .rx) .bytes) in
+    room-reaches (filton d && eqb set 0) (full (d .rx)) (lost .id) (lost .extended)
+
+-- and one from the bus does, where none of A1 to A3 holds
+bus-reaches : (a b c : Bool) (what : Arrival) → reachesTemporary what ≡ true
+    → reachesTemporary (pick a A1 (pick b A2 (pick c A3 what))) ≡ (not a && (not b && (not c && true)))
+unfolding reachesTemporary
+bus-reaches true b c what reaches = refl
+bus-reaches false true c what reaches = refl
+bus-reaches false false true what reaches = refl
+bus-reaches false false false what reaches = reaches
+
+own-gives : (t : Bool) (what : Arrival) → reachesTemporary what ≡ true → givesNumber (pick t (Arrived what) Done) ≡ t
+unfolding givesNumber
+own-gives true what reaches = reaches
+own-gives false what reaches = refl
+
+gives-same : (d : Device) (e : Event) (payload : List ℕ) → givesNumber (saidOf d e payload) ≡ getsNumber (situation d) e
+unfolding said brings busFrame nothing ownFrame reason takesNoFrames quietMode unacknowledged givesNumber getsNumber
+gives-same d (GoodFrame h acknowledged count) payload =
+    bus-reaches (takesNoFrames (d .acting)) (d .counters .busoff) (unacknowledged (d .acting) acknowledged) _ (filters-reach d _)
+gives-same d Completed payload = own-gives (eqb (d .acting) loopback) _ (filters-reach d _)
+gives-same d (ReceiveError kind) payload = refl
+gives-same d DominantBit payload = refl
+gives-same d (TransmitError kind counted) payload = refl
+gives-same d Begun payload = refl
+gives-same d ArbitrationLost payload = refl
+gives-same d ElevenRecessive payload = refl
+gives-same d BusQuiet payload = refl
+gives-same d BusActivity payload = refl
+gives-same d (Ticks count) payload = refl
+gives-same d (TxenPin level) payload = refl
+gives-same d MrPin payload = refl
+gives-same d Unknown payload = refl
+
+left-same : (d : Device) (e : Event) (payload : List ℕ) → noNumberLeft d (saidOf d e payload) ≡ (getsNumber (situation d) e && situation d .spent)
+unfolding noNumberLeft
+left-same d e payload = ap (λ (t : Bool). t && spent d) (gives-same d e payload)
+
+-- ---- the first of the three
+
+answer-number : (p q s : Bool) (a : Answer) → numberOf a ≡ 0
+    → numberOf (pick p (pick q (RefusedEvent 8) (pick s (RefusedEvent 12) a)) (RefusedEvent 1)) ≡ pick (not p) 1 (pick q 8 (pick s 12 0))
 unfolding numberOf
-answer-number false q a e = refl
-answer-number true true a e = refl
-answer-number true false a e = e
+answer-number false q s a e = refl
+answer-number true true s a e = refl
+answer-number true false true a e = refl
+answer-number true false false a e = e
 
 event-first : (d : Device) (e : Event) (payload : List ℕ) → numberGiven step d (wire e payload) ≡ numberDue (situation d) (wire e payload)
 unfolding event answer answeredBy numberDue
 event-first d e payload =
     number-of-answer d e payload (answer d e payload)
-    ∙ answer-number (proper d) (impossible d e) (saidOf d e payload) (said-done d _ _)
-    ∙ rw (proper-same d, impossible-same d e)
+    ∙ answer-number (proper d) (impossible d e) (noNumberLeft d (saidOf d e payload)) (saidOf d e payload) (said-done d _ _)
+    ∙ rw (proper-same d, impossible-same d e, left-same d e payload)
 
 -- ---- the promises
 
@@ -165,11 +224,11 @@ fits d (spi bytes buffer) = tt
 fits d (wire e payload) =
     by-event (λ s. Fits (wire e payload) (s .given)) d e payload
     (λ n wrong. rw wrong)
-    (λ possible. rw (told-out d e payload (saidOf d e payload), said-done d _ _) (said-told d _ _))
+    (λ possible left. rw (told-out d e payload (saidOf d e payload), said-done d _ _) (said-told d _ _))
 
-below : (d : Device) (i : Input) → numberGiven step d i ≤ 8
+below : (d : Device) (i : Input) → numberGiven step d i ≤ 12
 unfolding numberDue
-below d i = rw (first d i) (lowest-le (applies (situation d) i) 8 1 8 (omega arith))
+below d i = rw (first d i) (lowest-le (applies (situation d) i) 12 1 12 (omega arith))
 
 pub within : EveryInputIsAnswered
 within d i = (below d i, fits d i)
@@ -177,8 +236,8 @@ within d i = (below d i, fits d i)
 pub exactly : EachNumberExactly
 unfolding numberDue
 exactly d i n above below = (
-  (λ is. lowest-first (applies (situation d) i) 8 1 n above (sym (first d i) ∙ is)),
-  (λ says. first d i ∙ first-lowest (applies (situation d) i) 8 1 n above (omega arith) says),
+  (λ is. lowest-first (applies (situation d) i) 12 1 n above (sym (first d i) ∙ is)),
+  (λ says. first d i ∙ first-lowest (applies (situation d) i) 12 1 n above (omega arith) says),
 )
 
 pub refused : ARefusalChangesNothing
@@ -190,4 +249,4 @@ refused d (spi bytes buffer) =
 refused d (wire e payload) =
     by-event (λ s. (number (s .given) ≡ 0 → ⊥) → Untouched d (wire e payload) s) d e payload
     (λ n wrong not-done. refl)
-    (λ possible not-done. absurd (not-done (number-of-answer d e payload (saidOf d e payload) ∙ said-done d _ _)))
+    (λ possible left not-done. absurd (not-done (number-of-answer d e payload (saidOf d e payload) ∙ said-done d _ _)))

@@ -1,94 +1,55 @@
 -- A frame that arrives: what it is told, and what the device and the records make of it. Assumes nothing.
 use mathlib.Core.Path.{_≡_, refl, sym, _∙_, ap, ap₂, subst}
 use mathlib.Core.Bool.{Bool, true, false, _&&_, false≢true}
-use mathlib.Core.List.{List, [], _∷_}
-use Prim.Native.Nat.{ℕ, zero, suc, _+_, _≤_}
+use mathlib.Core.List.{List, [], _∷_, map-append}
+use Prim.Native.Nat.{ℕ, _+_, _≤_}
 use native.Mathlib.Omega.{arith}
-use borrow.Author.Tests.{ne-eqb, leb-true}
-use lib.Bits.{bitOr, or-zero-r}
+use borrow.Author.Tests.{leb-true}
+use lib.Bits.{bitOr}
 use lib.Dec.{eqb, leb}
-use lib.ListN.{drop}
-use Rattle.base.specs.Bit.{isSet}
+use lib.ListN.{drop, set as set-at}
 use Rattle.base.specs.Pick.{pick, flag}
 use Rattle.counters.specs.Rules.{goodFrame}
-use Rattle.fifo.specs.Queue.{full, putOver, latest}
-use Rattle.filter.specs.Hits.{lowestFrom, filhit}
+use Rattle.fifo.specs.Queue.{full, placeOver, putOver, latest}
 use Rattle.fifo.specs.declared.Message.{Message}
 use Rattle.frame.specs.declared.Header.{Header}
 use Rattle.frame.specs.Length.{possible}
 use Rattle.frame.specs.Received.{headerIn}
 use Rattle.frame.proofs.ReadBack.{header-back}
 use Rattle.chip.specs.declared.Device.{Device}
-use Rattle.chip.specs.State.{filton}
+use Rattle.chip.specs.State.{filton, spent}
 use Rattle.flags.specs.Flags.{raised}
 use Rattle.transmit.specs.Transmit.{transmitted}
 use Rattle.modes.specs.Modes.{busActivity}
 use Rattle.receive.specs.declared.Arrival.{Arrival}
 use Rattle.receive.specs.declared.Brought.{Brought}
 use Rattle.receive.specs.declared.Arrival.the-variants.{Queued, QueuedOver, A1, A2, A3, A4}
-use Rattle.receive.specs.Receive.{matching, hits, overLatest as overLatestOf, filtersAndRoom, isQueued, queuedFlag, filterFlag, queueAfter, message as messageAt, arrived}
+use Rattle.receive.specs.Receive.{matching, hits, overLatest as overLatestOf, filtersAndRoom, isQueued, reachesTemporary, queuedFlag, filterFlag}
+use Rattle.receive.specs.Receive.{queueAfter, nextSerial, serialsAfter, message as messageAt, arrived}
 use Rattle.judged.specs.Judged.{quietMode, takesNoFrames, unacknowledged, reason}
-use Rattle.changed.specs.Changed.{countedFrame, heard, taken, reachesTemporary, arrival}
+use Rattle.changed.specs.Changed.{countedFrame, heard, taken, arrival}
 use Rattle.bus.specs.Event.{arrivalValues}
 use Rattle.promise.specs.Counting.{frameHeard}
-use Rattle.promise.specs.Flags.{rxtmp, rxfifo, f0mess, f1mess, raise, together}
+use Rattle.promise.specs.Flags.{rxtmp, together}
 use Rattle.promise.specs.Filters.{compared}
 use Rattle.promise.specs.Frames.{Frame, message}
 use Rattle.promise.specs.Hits.{filhitOf}
-use Rattle.promise.specs.Ledger.{Ledger, left, newest, accepts}
+use Rattle.promise.specs.Ledger.{Ledger, frames, left, newest, accepts}
 use Rattle.promise.specs.Arrivals.{matching as matchingBy, arriving, firstTrue, fromTheBus, reasons, overLatest, toldBy}
-use Rattle.promise.specs.Noted.{reaches, joins, entered, arrivalMet, frameMet}
-use Rattle.promise.specs.Records.{Records}
+use Rattle.promise.specs.Noted.{activityMet, reaches, joins, entered, arrivalMet, frameMet}
+use Rattle.promise.specs.Numbering.{serials, Rises}
+use Rattle.promise.specs.Records.{Records, with-counters}
 use Rattle.promise.specs.Sequence.{fate}
 use Rattle.promise.specs.Settings.{Settings, patterns, filton as filtonBit}
 use Rattle.promise.proofs.Banks.{bank-patterns}
-use Rattle.promise.proofs.Choices.{pick-keeps, pick-both}
+use Rattle.promise.proofs.Answered.{filters-reach}
+use Rattle.promise.proofs.Flags.{filter-flags, flags-risen}
 use Rattle.promise.proofs.Kept.{Kept}
 use Rattle.promise.proofs.ModesKept.{activity-kept}
 use Rattle.promise.proofs.Queues.{HoldsLedger, left-waits, newest-latest, newest-shown, accepts-holds}
 use Rattle.promise.proofs.Matching.{hits-same as hits-alike, filhit-same}
+use Rattle.promise.proofs.Rises.{rises-more, rises-on}
 use Rattle.promise.proofs.Shown.{compared-same, shows-fields, shown-possible}
-
--- ---- flags that rise
-
-raised-too : (t : Bool) (bit : ℕ) (up : List ℕ) → together (raise t bit up) ≡ bitOr (together up) (pick t bit 0)
-raised-too true bit up = refl
-raised-too false bit up = sym (or-zero-r (together up))
-
--- F0MESS and F1MESS, by the set and by FILHIT
-abbrev byFilhit : ℕ → ℕ → ℕ
-byFilhit x n = bitOr (bitOr x (pick (eqb n 8) f0mess 0)) (pick (eqb n 9) f1mess 0)
-
--- from filter 2 on FILHIT is neither 1000 nor 1001
-later : (n k set : ℕ) → 2 ≤ k → (eqb (lowestFrom n k set) 8 ≡ false) × (eqb (lowestFrom n k set) 9 ≡ false)
-later zero k set from-two = (refl, refl)
-later (suc n) k set from-two =
-    pick-keeps (λ m. (eqb m 8 ≡ false) × (eqb m 9 ≡ false)) (isSet k set) (8 + k) _
-    (ne-eqb (8 + k) 8 (λ e. omega arith), ne-eqb (8 + k) 9 (λ e. omega arith))
-    (later n (suc k) set (omega arith))
-
-by-lowest : (x rest : ℕ) (zeroth first : Bool) → eqb rest 8 ≡ false → eqb rest 9 ≡ false
-    → bitOr x (pick zeroth f0mess (pick first f1mess 0)) ≡ byFilhit x (pick zeroth 8 (pick first 9 rest))
-by-lowest x rest true first not-8 not-9 = sym (or-zero-r (bitOr x f0mess))
-by-lowest x rest false true not-8 not-9 = ap (λ y. bitOr y f1mess) (sym (or-zero-r x))
-by-lowest x rest false false not-8 not-9 = rw (not-8, not-9) (sym (or-zero-r (bitOr x 0)))
-
-filter-flags : (x set : ℕ) → bitOr x (filterFlag set) ≡ byFilhit x (filhit set)
-unfolding filterFlag filhit
-filter-flags x set =
-    let rest = later 6 2 set (omega arith) in
-    by-lowest x (lowestFrom 6 2 set) (isSet 0 set) (isSet 1 set) (rest .0) (rest .1)
-
--- an arrival's flags, in one byte
-flags-risen : (queued : Bool) (n : ℕ) (up : List ℕ)
-    → together (raise (eqb n 9) f1mess (raise (eqb n 8) f0mess (raise queued rxfifo (rxtmp ∷ up))))
-    ≡ byFilhit (bitOr (bitOr (together up) rxtmp) (pick queued rxfifo 0)) n
-flags-risen queued n up =
-    rw (
-      raised-too (eqb n 9) f1mess (raise (eqb n 8) f0mess (raise queued rxfifo (rxtmp ∷ up))),
-      raised-too (eqb n 8) f0mess (raise queued rxfifo (rxtmp ∷ up)),
-      raised-too queued rxfifo (rxtmp ∷ up),
-    )
 
 -- ---- what an arrival's first value says
 
@@ -145,13 +106,6 @@ bus-room full false true c what room queued = absurd (false≢true queued)
 bus-room full false false true what room queued = absurd (false≢true queued)
 bus-room full false false false what room queued = room queued
 
--- a frame of our own reaches the temporary buffer
-own-reaches : (t full : Bool) (id : ℕ) (extended : Bool) → reachesTemporary (pick t A4 (pick full (QueuedOver id extended) Queued)) ≡ true
-unfolding reachesTemporary
-own-reaches true full id extended = refl
-own-reaches false true id extended = refl
-own-reaches false false id extended = refl
-
 module _ (d : Device) (r : Records) (h : Kept d r) where
   -- ---- the filters, and the message that is lost
 
@@ -165,7 +119,7 @@ module _ (d : Device) (r : Records) (h : Kept d r) where
   l = r .ledger
 
   waits : left l ≡ d .rx .count
-  waits = left-waits (d .rx) l (h .3 .2)
+  waits = left-waits (d .rx) (d .serials .places) l (h .3 .2)
 
   -- with eight waiting, the one that is named is the last that was accepted
   over-named : d .rx .count ≡ 8 → arrivalValues (overLatestOf (d .rx)) ≡ overLatest (newest l)
@@ -173,8 +127,8 @@ module _ (d : Device) (r : Records) (h : Kept d r) where
   over-named eight =
       let lost = newest l in
       ap (λ (g : Header). 6 ∷ g .id ∷ flag (g .extended) ∷ [])
-      (ap (λ (m : Message). headerIn (m .bytes)) (sym (newest-latest (d .rx) l (h .3 .2) eight))
-      ∙ header-back (lost .header) (lost .payload) (lost .time) (filhitOf (lost .hits)) (shown-possible lost (newest-shown (d .rx) l (h .3 .2) eight)))
+      (ap (λ (m : Message). headerIn (m .bytes)) (sym (newest-latest (d .rx) (d .serials .places) l (h .3 .2) eight))
+      ∙ header-back (lost .header) (lost .payload) (lost .time) (filhitOf (lost .hits)) (shown-possible lost (newest-shown (d .rx) (d .serials .places) l (h .3 .2) eight)))
 
   -- a frame that comes
   module _ (few : d .rx .count ≤ 8) (b : Brought) (comes : b .comes ≡ true) (ok : possible (b .header) ≡ true) where
@@ -246,14 +200,14 @@ module _ (d : Device) (r : Records) (h : Kept d r) where
     finds = finds′ (b .own) refl
 
     -- one of our own is taken in any case
+    pub own-reaches : b .own ≡ true → reachesTemporary (reason d b set) ≡ true
+    own-reaches own = ap reachesTemporary (own-reason own) ∙ filters-reach d set
+
     pub own-taken : b .own ≡ true → arrival d b set (reason d b set) ≡ transmitted (arrived d b set (reason d b set))
-    unfolding arrival taken filtersAndRoom overLatestOf
+    unfolding arrival taken
     own-taken own =
         let arrives = arrived d b set (reason d b set) in
-        let lost = headerIn (latest (d .rx) .bytes) in
-        ap₂ (λ (t o : Bool). pick t (pick o (transmitted arrives) (heard arrives)) (busActivity d))
-        (ap reachesTemporary (own-reason own) ∙ own-reaches (filton d && eqb set 0) (full (d .rx)) (lost .id) (lost .extended))
-        own
+        ap₂ (λ (t o : Bool). pick t (pick o (transmitted arrives) (heard arrives)) (busActivity d)) (own-reaches own) own
 
     -- ---- the device and the records after it
 
@@ -265,21 +219,39 @@ module _ (d : Device) (r : Records) (h : Kept d r) where
           filter-flags (bitOr (bitOr (d .regs .intf) rxtmp) (queuedFlag (isQueued what))) set
           ∙ rw (hits-same, filhit-same (f .hits), queued-same what, h .2 .3) (sym (flags-risen (joins (reasonOf what)) (filhitOf (f .hits)) (r .flags)))
 
-      queue-cases : (t : Bool) → isQueued what ≡ t → HoldsLedger (pick t (putOver (d .rx) (message f)) (d .rx)) (pick t (accepts l f (eqb (reasonOf what) 6)) l)
-      queue-cases true queued = accepts-holds (d .rx) l (h .3 .2) f (eqb (reasonOf what) 6) (room queued) few (shows-fields f ok)
+      -- it gets the next number, in its place if it is queued
+      next-same : spent d ≡ false → nextSerial (d .serials .last) ≡ f .serial
+      unfolding nextSerial
+      next-same left = rw (left, h .3 .4 .0)
+
+      queue-cases : (t : Bool) → isQueued what ≡ t
+          → HoldsLedger (pick t (putOver (d .rx) (message f)) (d .rx)) (pick t (set-at (d .serials .places) (placeOver (d .rx)) (f .serial)) (d .serials .places))
+          (pick t (accepts l f (eqb (reasonOf what) 6)) l)
+      queue-cases true queued = accepts-holds (d .rx) (d .serials .places) l (h .3 .2) f (eqb (reasonOf what) 6) (room queued) few (shows-fields f ok)
       queue-cases false out = h .3 .2
 
-      arrival-queue : HoldsLedger (queueAfter (d .rx) (message f) (joins (reasonOf what))) (entered l f (reasonOf what))
-      unfolding queueAfter
-      arrival-queue = queue-cases (joins (reasonOf what)) (queued-same what)
+      arrival-queue : spent d ≡ false → HoldsLedger (queueAfter (d .rx) (message f) (joins (reasonOf what))) (serialsAfter (d .serials) (d .rx) (joins (reasonOf what)) .places) (entered l f (reasonOf what))
+      unfolding queueAfter serialsAfter
+      arrival-queue left = rw (next-same left) (queue-cases (joins (reasonOf what)) (queued-same what))
 
-      pub arrival-kept : Kept (arrived d b set what) (arrivalMet r f (reasonOf what))
-      unfolding arrived raised
-      arrival-kept = (
+      -- one more in order, or none
+      ordered-cases : (t : Bool) → Rises 0 (r .arrivals + 1) (serials (frames (pick t (accepts l f (eqb (reasonOf what) 6)) l)))
+      ordered-cases true = rw (map-append, map-append) (rises-more 0 (r .arrivals) (serials (frames l)) (h .3 .4 .2))
+      ordered-cases false = rises-on 0 (r .arrivals) (serials (frames l)) (h .3 .4 .2)
+
+      pub arrival-kept : spent d ≡ false → Kept (arrived d b set what) (arrivalMet r f (reasonOf what))
+      unfolding arrived raised serialsAfter
+      arrival-kept left = (
         h .0,
         h .1,
         (h .2 .0, h .2 .1, h .2 .2, arrival-flags),
-        (ap (λ (m : Message). drop 1 (m .bytes)) message-same, hits-same, rw (message-same, queued-same what) arrival-queue, shows-fields f ok),
+        (
+          ap (λ (m : Message). drop 1 (m .bytes)) message-same,
+          hits-same,
+          rw (message-same, queued-same what) (arrival-queue left),
+          shows-fields f ok,
+          (next-same left, next-same left, ordered-cases (joins (reasonOf what))),
+        ),
         h .4,
       )
 
@@ -287,13 +259,20 @@ module _ (d : Device) (r : Records) (h : Kept d r) where
       unfolding countedFrame goodFrame
       counted-same = rw (h .2 .0, ap (λ (s : Settings). s .acting) (h .0))
 
-      pub frame-kept : b .own ≡ false → Kept (arrival d b set what) (frameMet r f (reasonOf what))
-      unfolding arrival taken heard arrived raised
-      frame-kept bus =
+      -- one that isn't taken gets no number, so that none need be left
+      frame-cases : (t : Bool) → reachesTemporary what ≡ t → (reachesTemporary what ≡ true → spent d ≡ false)
+          → Kept (pick t (heard (arrived d b set what)) (busActivity d))
+          (pick t (with-counters (arrivalMet r f (reasonOf what)) (frameHeard (r .counters) (r .settings .acting))) (activityMet r))
+      unfolding heard arrived raised
+      frame-cases true reaches left =
+          let k = arrival-kept (left reaches) in
+          (k .0, k .1, (counted-same, k .2 .1, k .2 .2, k .2 .3), k .3, k .4)
+      frame-cases false out left = activity-kept d r h
+
+      pub frame-kept : b .own ≡ false → (reachesTemporary what ≡ true → spent d ≡ false) → Kept (arrival d b set what) (frameMet r f (reasonOf what))
+      unfolding arrival taken
+      frame-kept bus left =
           subst
           (λ (o : Bool). Kept (pick (reachesTemporary what) (taken (arrived d b set what) o) (busActivity d)) (frameMet r f (reasonOf what)))
           (sym bus)
-          (rw (reaches-same what)
-          (pick-both Kept (reaches (reasonOf what)) _ _ _ _
-          (arrival-kept .0, arrival-kept .1, (counted-same, arrival-kept .2 .1, arrival-kept .2 .2, arrival-kept .2 .3), arrival-kept .3, arrival-kept .4)
-          (activity-kept d r h)))
+          (rw (← reaches-same what) (frame-cases (reachesTemporary what) refl left))

@@ -70,9 +70,10 @@ taken-cases (suc n) q count = sym (ap (drop 1) (take-waits q n count))
 taken-waits : (q : Fifo) → waiting (takeOff q) ≡ drop 1 (waiting q)
 taken-waits q = taken-cases (q .count) q refl
 
-map-rest : {A B : Type 0} (f : A → B) (xs : List A) → map f (drop 1 xs) ≡ drop 1 (map f xs)
-map-rest f [] = refl
-map-rest f (x ∷ xs) = refl
+pub map-drop : {A B : Type 0} (f : A → B) (n : ℕ) (xs : List A) → map f (drop n xs) ≡ drop n (map f xs)
+map-drop f zero xs = refl
+map-drop f (suc n) [] = refl
+map-drop f (suc n) (x ∷ xs) = map-drop f n xs
 
 -- ---- each change
 
@@ -175,7 +176,7 @@ module _ (tx : Fifo) (buffer : Message) (sending : ℕ) (history : Fifo) (mtag :
   transmitted-queue : (r : Running) → Runs sending buffer r → waiting (fifoAfter tx sending) ≡ map ownMessage (remaining (o .queue) r)
   unfolding fifoAfter
   transmitted-queue none runs = rw runs (h .queue)
-  transmitted-queue (first m) runs = rw (runs .0) (taken-waits tx ∙ ap (drop 1) (h .queue) ∙ sym (map-rest ownMessage (o .queue)))
+  transmitted-queue (first m) runs = rw (runs .0) (taken-waits tx ∙ ap (drop 1) (h .queue) ∙ sym (map-drop ownMessage 1 (o .queue)))
   transmitted-queue (alone m) runs = rw (runs .0) (h .queue)
 
   -- an entry more, unless there are eight
@@ -214,7 +215,7 @@ module _ (tx : Fifo) (buffer : Message) (sending : ℕ) (history : Fifo) (mtag :
     queue = h .queue;
     runs = h .runs;
     pages = rw (taken-items history) (h .pages);
-    entries = rw (taken-waits history, map-rest, h .entries);
+    entries = rw (taken-waits history, map-drop, h .entries);
     tag = h .tag;
     bound = rw (taken-waits history) (each-rest Entry (waiting history) (h .bound));
     sendable = h .sendable;

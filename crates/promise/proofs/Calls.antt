@@ -6,6 +6,7 @@ use denote.Ref.{now}
 use Rattle.chip.specs.State.{fresh}
 use Rattle.bus.specs.Event
 use Rattle.bus.specs.Hits
+use Rattle.bus.specs.Numbers
 use Rattle.bus.specs.Pins
 use Rattle.host.specs.Transfer
 use Rattle.bus.proofs as bus
@@ -17,7 +18,7 @@ use Rattle.one.specs.Law.{read-off}
 use Rattle.one.specs.Shapes.{result-is, result-and-content-are}
 use Rattle.promise.specs.Promises.{TheMachineIsTheCode}
 use Rattle.promise.specs.Sequence.{Given, replied, answered, Step, shipped}
-use Rattle.promise.specs.Calls.{Transfers, Events, Asked, Looks, Tells, Explains, Begins}
+use Rattle.promise.specs.Calls.{Transfers, Events, Asked, Looks, Tells, Lists, Explains, Begins}
 use Rattle.promise.proofs.Answered.{told-out}
 
 module _ (M : Type 1) where
@@ -46,6 +47,9 @@ module _ (M : Type 1) where
   tells : Tells M Hits.hits
   tells = result-is bus.hits.clauses (λ _. Hits.hits) refl
 
+  lists : Lists M Numbers.numbers
+  lists = result-is bus.numbers.clauses (λ _. Numbers.numbers) refl
+
   explains : Explains M Why.explained
   explains = result-is why.explained.clauses (λ _. Why.explained) refl
 
@@ -53,4 +57,4 @@ module _ (M : Type 1) where
   begins = result-is chip.fresh.clauses (λ _. fresh) refl
 
 pub is-the-code : TheMachineIsTheCode
-is-the-code M = (transfers M, events M, asked M, looks M, tells M, explains M, begins M)
+is-the-code M = (transfers M, events M, asked M, looks M, tells M, lists M, explains M, begins M)

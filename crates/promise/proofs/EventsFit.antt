@@ -17,14 +17,14 @@ use Rattle.transmit.specs.Transmit.{stopped, begun, canBegin, transmitted, fifo
 use Rattle.modes.specs.Modes.{modeChanged, busQuiet, busActivity, canSleep}
 use Rattle.receive.specs.declared.Arrival.{Arrival}
 use Rattle.receive.specs.declared.Brought.{Brought}
-use Rattle.receive.specs.Receive.{hits, arrived, queueAfter, isQueued}
+use Rattle.receive.specs.Receive.{hits, arrived, queueAfter, isQueued, reachesTemporary}
 use Rattle.events.specs.declared.ErrorKind.{ErrorKind}
 use Rattle.events.specs.declared.Event.{Event}
 use Rattle.events.specs.declared.Event.the-variants.{GoodFrame, ReceiveError, DominantBit, TransmitError, Begun, Completed, ArbitrationLost, ElevenRecessive}
 use Rattle.events.specs.declared.Event.the-variants.{BusQuiet, BusActivity, Ticks, TxenPin, MrPin, Unknown}
 use Rattle.judged.specs.declared.Answer.{Answer}
 use Rattle.judged.specs.Judged.{impossible, reason, said, brings}
-use Rattle.changed.specs.Changed.{errBit, countedFrame, heard, taken, reachesTemporary, countedReceiveError, receiveErrorMet, dominantMet, countedTransmitError}
+use Rattle.changed.specs.Changed.{errBit, countedFrame, heard, taken, countedReceiveError, receiveErrorMet, dominantMet, countedTransmitError}
 use Rattle.changed.specs.Changed.{transmitErrorMet, recessiveMet, ticked, pinSet, arrival, after}
 use Rattle.promise.proofs.Choices.{pick-under}
 use Rattle.promise.proofs.Ranges.{InRange, put-fits, over-fits, take-fits}

@@ -13,12 +13,12 @@ use Rattle.counters.specs.Rules.{receiveError, dominantBit, transmitError, comp
 use Rattle.fifo.specs.Queue.{isEmpty}
 use Rattle.frame.specs.Length.{possible, dataFits}
 use Rattle.chip.specs.declared.Device.{Device}
-use Rattle.chip.specs.State.{loopback, idle, bor}
+use Rattle.chip.specs.State.{loopback, idle, bor, spent}
 use Rattle.flags.specs.Flags.{raised, busError}
 use Rattle.transmit.specs.Transmit.{canBegin, withoutTx1m as tx1mCleared, ctrl1Begun, begun, stopped, countedCompletion, transmitted}
 use Rattle.receive.specs.declared.Arrival.{Arrival}
 use Rattle.receive.specs.declared.Brought.{Brought}
-use Rattle.receive.specs.Receive.{hits, arrived, ownFrame}
+use Rattle.receive.specs.Receive.{hits, reachesTemporary, arrived, ownFrame}
 use Rattle.events.specs.declared.ErrorKind.{ErrorKind}
 use Rattle.events.specs.declared.ErrorKind.the-variants.{Stuff, Ack, Crc, Form, Bit}
 use Rattle.events.specs.declared.Event.{Event}
@@ -27,7 +27,7 @@ use Rattle.events.specs.declared.Event.the-variants.{ArbitrationLost, ElevenRec
 use Rattle.events.specs.declared.Event.the-variants.{Unknown}
 use Rattle.judged.specs.declared.Answer.{Answer}
 use Rattle.judged.specs.declared.Answer.the-variants.{Arrived, Done}
-use Rattle.judged.specs.Judged.{runs, impossibleFrame, impossible, reason, said, busFrame, nothing as nobody, brings}
+use Rattle.judged.specs.Judged.{runs, impossibleFrame, impossible, reason, said, givesNumber, noNumberLeft, busFrame, nothing as nobody, brings}
 use Rattle.changed.specs.Changed.{errBit, countedReceiveError, receiveErrorMet, dominantMet, countedTransmitError, transmitErrorMet}
 use Rattle.changed.specs.Changed.{recessiveMet, ticked, pinSet, arrival, after}
 use Rattle.bus.specs.Event.{arrivalValues, valuesOf, outcome}
@@ -42,7 +42,7 @@ use Rattle.promise.specs.Records.{Records}
 use Rattle.promise.specs.Sequence.{fate}
 use Rattle.promise.specs.Settings.{Settings, settingsOf, with-ctrl1, withoutTx1m, with-pin, osm, bor as borBit}
 use Rattle.promise.proofs.Steps.{saidOf, outcomeOf}
-use Rattle.promise.proofs.Arrivals.{reasonOf, bus-due, own-due, finds, own-taken, arrival-kept, frame-kept}
+use Rattle.promise.proofs.Arrivals.{reasonOf, bus-due, own-due, finds, own-reaches, own-taken, arrival-kept, frame-kept}
 use Rattle.promise.proofs.Boxes.{rests-same, buffer-runs, halted-boxed, begun-boxed, transmitted-boxed}
 use Rattle.promise.proofs.Fits.{some-wait}
 use Rattle.promise.proofs.Kept.{Kept}
@@ -89,6 +89,11 @@ module _ (d : Device) (r : Records) (h : Kept d r) where
 
 -- ---- what an event says, and leaves
 
+-- where 12 is not due, a frame that gets a number finds one
+pub finds-number : (d : Device) (what : Arrival) → noNumberLeft d (Arrived what) ≡ false → reachesTemporary what ≡ true → spent d ≡ false
+unfolding noNumberLeft givesNumber
+finds-number d what left reaches = sym (ap (λ (t : Bool). t && spent d) reaches) ∙ left
+
 module _ (d : Device) (r : Records) (h : Kept d r) (few : d .rx .count ≤ 8) where
   runs-some : runs d ≡ true → rests (r .outbox .running) ≡ false
   unfolding runs
@@ -125,15 +130,20 @@ module _ (d : Device) (r : Records) (h : Kept d r) (few : d .rx .count ≤ 8) wh
     its-own = refl
 
     module _ (comes : b .comes ≡ true) where
+      own-left : noNumberLeft d (pick (b .comes) (Arrived told) Done) ≡ false → spent d ≡ false
+      own-left left =
+          finds-number d told (sym (ap (λ (t : Bool). noNumberLeft d (pick t (Arrived told) Done)) comes) ∙ left)
+          (own-reaches d r h few b comes own-possible its-own)
+
       own-says : arrivalValues told ≡ dueOf r (frame (own r) [])
       own-says = own-due d r h few b comes own-possible its-own ∙ ap (λ (f : Frame). dueOf r (frame f [])) own-same
 
-      own-kept : Kept (arrival d b (hits d b) told) (completedMet (arrivalMet r (own r) (reasonOf told)))
-      own-kept =
+      own-kept : spent d ≡ false → Kept (arrival d b (hits d b) told) (completedMet (arrivalMet r (own r) (reasonOf told)))
+      own-kept left =
           rw (own-taken d r h few b comes own-possible its-own)
           (subst (λ (f : Frame). Kept (transmitted (arrived d b (hits d b) told)) (completedMet (arrivalMet r f (reasonOf told)))) own-same
           (transmitted-kept (arrived d b (hits d b) told) (arrivalMet r (arriving r (b .header) (b .payload)) (reasonOf told))
-          (arrival-kept d r h few b comes own-possible told (finds d r h few b comes own-possible)) some))
+          (arrival-kept d r h few b comes own-possible told (finds d r h few b comes own-possible) left) some))
 
     -- by whether it comes, as the device and as the records have it
     abbrev Agreeing : Bool → Bool → Type 0
@@ -143,22 +153,23 @@ module _ (d : Device) (r : Records) (h : Kept d r) (few : d .rx .count ≤ 8) wh
         (completedMet (pick u (arrivalMet r (own r) (fate (dueOf r (pick u (frame (own r) []) nothing)))) r))
         × (valuesOf (outcome d Completed b (hits d b) (pick t (Arrived told) Done) .answer) ≡ dueOf r (pick u (frame (own r) []) nothing))
 
-    by-mode : (t : Bool) → b .comes ≡ t → Agreeing t t
+    by-mode : (t : Bool) → b .comes ≡ t → noNumberLeft d (pick (b .comes) (Arrived told) Done) ≡ false → Agreeing t t
     unfolding after valuesOf
-    by-mode true comes = (
-      subst (λ (n : ℕ). Kept (arrival d b (hits d b) told) (completedMet (arrivalMet r (own r) n))) (ap fate (own-says comes)) (own-kept comes),
+    by-mode true comes left = (
+      subst (λ (n : ℕ). Kept (arrival d b (hits d b) told) (completedMet (arrivalMet r (own r) n))) (ap fate (own-says comes))
+          (own-kept comes (own-left comes left)),
       own-says comes,
     )
-    by-mode false none = (transmitted-kept d r h some, refl)
+    by-mode false none left = (transmitted-kept d r h some, refl)
 
     own-comes : b .comes ≡ eqb (r .settings .acting) loopback
     unfolding ownFrame
     own-comes = ap (λ a. eqb a loopback) (acts d r h)
 
-    own-agrees : Agreeing (b .comes) (eqb (r .settings .acting) loopback)
-    own-agrees =
+    own-agrees : noNumberLeft d (pick (b .comes) (Arrived told) Done) ≡ false → Agreeing (b .comes) (eqb (r .settings .acting) loopback)
+    own-agrees left =
         subst (λ (t : Bool). Agreeing t (eqb (r .settings .acting) loopback)) (sym own-comes)
-        (by-mode (eqb (r .settings .acting) loopback) own-comes)
+        (by-mode (eqb (r .settings .acting) loopback) own-comes left)
 
   -- ---- each event
 
@@ -168,17 +179,17 @@ module _ (d : Device) (r : Records) (h : Kept d r) (few : d .rx .count ≤ 8) wh
       Kept (outcomeOf d e payload a .device) (happened r e payload (fate (valuesDue r e payload)))
       × (valuesOf (outcomeOf d e payload a .answer) ≡ valuesDue r e payload)
 
-  pub event-agrees : (e : Event) (payload : List ℕ) → impossible d e ≡ false → Agrees e payload (saidOf d e payload)
+  pub event-agrees : (e : Event) (payload : List ℕ) → impossible d e ≡ false → noNumberLeft d (saidOf d e payload) ≡ false → Agrees e payload (saidOf d e payload)
   unfolding said brings busFrame nobody after happened impossible impossibleFrame receiveErrorMet busError raised countedReceiveError receiveError dominantMet dominantBit
       transmitErrorMet countedTransmitError transmitError stopped recessiveMet elevenRecessive ticked pinSet valuesOf
-  event-agrees (GoodFrame header acknowledged count) payload can =
+  event-agrees (GoodFrame header acknowledged count) payload can left =
       let b : Brought = busFrame header acknowledged payload in
       let ok = and-left (possible header) _ (not-false (possible header && dataFits header count) can) in
       let due = bus-due d r h few b refl ok refl in (
-        rw (← due) (frame-kept d r h few b refl ok (reason d b (hits d b)) (finds d r h few b refl ok) refl),
+        rw (← due) (frame-kept d r h few b refl ok (reason d b (hits d b)) (finds d r h few b refl ok) refl (finds-number d (reason d b (hits d b)) left)),
         due,
       )
-  event-agrees (ReceiveError kind) payload can = (
+  event-agrees (ReceiveError kind) payload can left = (
     (
       h .0,
       h .1,
@@ -188,8 +199,8 @@ module _ (d : Device) (r : Records) (h : Kept d r) (few : d .rx .count ≤ 8) wh
     ),
     refl,
   )
-  event-agrees DominantBit payload can = ((h .0, h .1, (rw (h .2 .0, acts d r h), h .2 .1, h .2 .2, h .2 .3), h .3, h .4), refl)
-  event-agrees (TransmitError kind counted) payload can = (
+  event-agrees DominantBit payload can left = ((h .0, h .1, (rw (h .2 .0, acts d r h), h .2 .1, h .2 .2, h .2 .3), h .3, h .4), refl)
+  event-agrees (TransmitError kind counted) payload can left = (
     (
       h .0,
       h .1,
@@ -199,10 +210,10 @@ module _ (d : Device) (r : Records) (h : Kept d r) (few : d .rx .count ≤ 8) wh
     ),
     refl,
   )
-  event-agrees Begun payload can = (begun-kept d r h (not-false (canBegin d) can), refl)
-  event-agrees Completed payload can = own-agrees (runs-some (not-false (runs d) can))
-  event-agrees ArbitrationLost payload can = ((h .0, h .1, h .2, h .3, halted-boxed _ _ _ _ _ _ (h .4)), refl)
-  event-agrees ElevenRecessive payload can = (
+  event-agrees Begun payload can left = (begun-kept d r h (not-false (canBegin d) can), refl)
+  event-agrees Completed payload can left = own-agrees (runs-some (not-false (runs d) can)) left
+  event-agrees ArbitrationLost payload can left = ((h .0, h .1, h .2, h .3, halted-boxed _ _ _ _ _ _ (h .4)), refl)
+  event-agrees ElevenRecessive payload can left = (
     (
       h .0,
       h .1,
@@ -212,9 +223,9 @@ module _ (d : Device) (r : Records) (h : Kept d r) (few : d .rx .count ≤ 8) wh
     ),
     refl,
   )
-  event-agrees BusQuiet payload can = (quiet-kept d r h, refl)
-  event-agrees BusActivity payload can = (activity-kept d r h, refl)
-  event-agrees (Ticks count) payload can = ((h .0, h .1, (h .2 .0, rw (h .2 .1) (omega arith), h .2 .2, h .2 .3), h .3, h .4), refl)
-  event-agrees (TxenPin level) payload can = ((ap (λ s. with-pin s level) (h .0), h .1, h .2, h .3, h .4), refl)
-  event-agrees MrPin payload can = (reset-kept d r h, refl)
-  event-agrees Unknown payload can = absurd (false≢true (sym can))
+  event-agrees BusQuiet payload can left = (quiet-kept d r h, refl)
+  event-agrees BusActivity payload can left = (activity-kept d r h, refl)
+  event-agrees (Ticks count) payload can left = ((h .0, h .1, (h .2 .0, rw (h .2 .1) (omega arith), h .2 .2, h .2 .3), h .3, h .4), refl)
+  event-agrees (TxenPin level) payload can left = ((ap (λ s. with-pin s level) (h .0), h .1, h .2, h .3, h .4), refl)
+  event-agrees MrPin payload can left = (reset-kept d r h, refl)
+  event-agrees Unknown payload can left = absurd (false≢true (sym can))

@@ -26,7 +26,7 @@ use Rattle.receive.specs.declared.Brought.{Brought}
 use Rattle.receive.specs.Receive.{matching, hits, overLatest, filtersAndRoom}
 use Rattle.judged.specs.declared.Answer.{Answer}
 use Rattle.judged.specs.declared.Answer.the-variants.{Refused, Done, Arrived}
-use Rattle.judged.specs.Judged.{impossibleFrame, impossible, takesNoFrames, unacknowledged, reason, said, busFrame, brings}
+use Rattle.judged.specs.Judged.{impossibleFrame, impossible, takesNoFrames, unacknowledged, reason, said, noNumberLeft, busFrame, brings}
 use Rattle.events.specs.declared.Event.the-variants.{GoodFrame}
 use Rattle.bus.specs.Event.{answered as answeredBy, answer, event}
 use Rattle.why.specs.declared.Place.{Place}
@@ -49,11 +49,12 @@ the-devices d h acknowledged count payload =
 
 -- ---- A4: no filter matches
 
-a4-alone : (p i : Bool) (s : Answer) → noFilter (pick p (pick i (Refused 8) s) (Refused 1)) ≡ true → (i ≡ false) × (noFilter s ≡ true)
+a4-alone : (p i n : Bool) (s : Answer) → noFilter (pick p (pick i (Refused 8) (pick n (Refused 12) s)) (Refused 1)) ≡ true → (i ≡ false) × (noFilter s ≡ true)
 unfolding noFilter
-a4-alone true true s e = absurd (false≢true e)
-a4-alone true false s e = (refl, e)
-a4-alone false i s e = absurd (false≢true e)
+a4-alone true true n s e = absurd (false≢true e)
+a4-alone true false true s e = absurd (false≢true e)
+a4-alone true false false s e = (refl, e)
+a4-alone false i n s e = absurd (false≢true e)
 
 for-the-filters : (a b c f full : Bool) (id : ℕ) (extended : Bool)
     → isA4 (pick a A1 (pick b A2 (pick c A3 (pick f A4 (pick full (QueuedOver id extended) Queued))))) ≡ true → f ≡ true
@@ -94,7 +95,9 @@ module _ (d : Device) (h : Header) (acknowledged : Bool) (count : ℕ) (payload 
   module _ (a4 : noFilter told ≡ true) where
     parts : (impossible d (GoodFrame h acknowledged count) ≡ false) × (noFilter (said d brought (hits d brought)) ≡ true)
     unfolding answer answeredBy brings
-    parts = a4-alone (proper d) (impossible d (GoodFrame h acknowledged count)) (said d brought (hits d brought)) a4
+    parts =
+        let s = said d brought (hits d brought) in
+        a4-alone (proper d) (impossible d (GoodFrame h acknowledged count)) (noNumberLeft d s) s a4
 
     can : possible h ≡ true
     unfolding impossible impossibleFrame

@@ -18,8 +18,9 @@ module _ (d : Device) (r : Records) where
     (
       h .latest .0,
       h .latest .1,
-      record { places = h .shaped .2; whole = h .whole; shown = h .arrived .1 },
+      record { places = h .shaped .2; eight = h .shaped .6; whole = h .whole; carried = h .carries .0; shown = h .arrived .1 },
       h .arrived .0,
+      (h .last, h .carries .1, h .ordered),
     ),
     record {
       places = h .shaped .3;
@@ -37,7 +38,7 @@ module _ (d : Device) (r : Records) where
   pub kept-held : InRange d → Kept d r → Holds d r
   kept-held range k = record {
     fits = sym (proper-same d) ∙ ranges-proper d range;
-    shaped = (k .1 .0, k .1 .1, k .3 .2 .places, k .4 .places, k .4 .pages, k .4 .bound);
+    shaped = (k .1 .0, k .1 .1, k .3 .2 .places, k .4 .places, k .4 .pages, k .4 .bound, k .3 .2 .eight);
     settled = k .0;
     counted = k .2 .0;
     timed = k .2 .1;
@@ -45,6 +46,9 @@ module _ (d : Device) (r : Records) where
     raised = k .2 .3;
     latest = (k .3 .0, k .3 .1);
     whole = k .3 .2 .whole;
+    last = k .3 .4 .0;
+    carries = (k .3 .2 .carried, k .3 .4 .1);
+    ordered = k .3 .4 .2;
     arrived = (k .3 .3, k .3 .2 .shown);
     written = (k .4 .queue, k .4 .runs);
     remembered = (k .4 .entries, k .4 .tag);

@@ -2,6 +2,7 @@
 use mathlib.Core.Path.{_≡_, refl, sym, _∙_, ap}
 use mathlib.Core.Bool.{true}
 use Prim.Native.Nat.{_%_}
+use native.Mathlib.Omega.{arith}
 use lib.Dec.{eqb}
 use lib.ListN.{length, drop}
 use Rattle.chip.specs.declared.Device.{Device}
@@ -13,6 +14,8 @@ use Rattle.frame.specs.Received.{received}
 use Rattle.frame.specs.Tables.{idAsRead, idBits}
 use Rattle.promise.specs.Flags.{together}
 use Rattle.promise.specs.Frames.{message}
+use Rattle.promise.specs.Ledger.{frames}
+use Rattle.promise.specs.Numbering.{serials, Rises}
 use Rattle.promise.specs.Numbers.{situation}
 use Rattle.promise.specs.Outbox.{rests}
 use Rattle.promise.specs.Ranges.{deviceInRange}
@@ -37,8 +40,19 @@ Sums d r =
     × (d .regs .errs ≡ together (r .kinds))
     × (d .regs .intf ≡ together (r .flags))
 
+abbrev pub Numbered : Device → Records → Type 0
+Numbered d r =
+    (d .serials .last ≡ r .arrivals)
+    × (d .serials .temp ≡ r .latest .serial)
+    × Rises 0 (r .arrivals) (serials (frames (r .ledger)))
+
 abbrev pub Framed : Device → Records → Type 0
-Framed d r = (drop 1 (d .temp .bytes) ≡ drop 1 (message (r .latest) .bytes)) × (d .regs .hits ≡ r .latest .hits) × HoldsLedger (d .rx) (r .ledger) × Shown (r .latest)
+Framed d r =
+    (drop 1 (d .temp .bytes) ≡ drop 1 (message (r .latest) .bytes))
+    × (d .regs .hits ≡ r .latest .hits)
+    × HoldsLedger (d .rx) (d .serials .places) (r .ledger)
+    × Shown (r .latest)
+    × Numbered d r
 
 abbrev pub Outgoing : Device → Records → Type 0
 Outgoing d r = Boxed (d .tx) (d .buffer) (d .sending) (d .history) (d .regs .mtag) (r .outbox)
@@ -50,7 +64,7 @@ pub fresh-kept : Kept fresh start
 unfolding fresh modeNamed received idAsRead idBits dataOf dataBytes dataLength
 fresh-kept =
     let six = each-replicate (λ (p : Pattern). length (p .bytes) ≡ 6) 8 zeros refl in
-    (refl, ((refl, six), (refl, six)), (refl, refl, refl, refl), (refl, refl, empty-holds, blank-shown), empty-boxed none)
+    (refl, ((refl, six), (refl, six)), (refl, refl, refl, refl), (refl, refl, empty-holds _ refl, blank-shown, (refl, refl, omega arith)), empty-boxed none)
 
 module _ (d : Device) (r : Records) (range : InRange d) (h : Kept d r) where
   abbrev s : Settings
@@ -70,5 +84,6 @@ module _ (d : Device) (r : Records) (range : InRange d) (h : Kept d r) where
       let rests-is : eqb (d .sending) idle ≡ rests (r .outbox .running) = rests-same _ _ _ _ _ _ (h .4) in
       let to-send = queue-length _ _ _ _ _ _ (h .4) in
       let entries = history-length _ _ _ _ _ _ (h .4) in
-      let waits = left-waits (d .rx) (r .ledger) (h .3 .2) in
+      let last = h .3 .4 .0 in
+      let waits = left-waits (d .rx) (d .serials .places) (r .ledger) (h .3 .2) in
       cc

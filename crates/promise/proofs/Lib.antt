@@ -10,6 +10,7 @@ pub mod CommandsFit
 pub mod EventsFit
 pub mod Each
 pub mod Ledgers
+pub mod Rises
 pub mod Queues
 pub mod Shown
 pub mod Matching
@@ -22,15 +23,19 @@ pub mod Kept
 pub mod Held
 pub mod ModesKept
 pub mod CommandsKept
+pub mod Flags
 pub mod Arrivals
 pub mod EventsKept
+pub mod CountsOn
 pub mod Replies
 pub mod Questions
 pub mod Places
 pub mod Explanations
 pub mod Losses
+pub mod Numbering
 pub mod After
 pub mod Worked
+pub mod Scenes
 pub mod Cases
 pub mod Sides
 pub mod RuledOut

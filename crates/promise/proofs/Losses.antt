@@ -27,6 +27,7 @@ use Rattle.promise.specs.Frames.{Frame, blank, message}
 use Rattle.promise.specs.Held.{Each, Holds}
 use Rattle.promise.specs.Ledger.{Ledger, kept, replaced, left, newest, accepts}
 use Rattle.promise.specs.Losses.{saysOver, Exchanged, NoneReplaced, LossTold}
+use Rattle.promise.specs.Numbering.{serials, carried}
 use Rattle.promise.specs.Noted.{reset, modeChanged, ctrl0Written, quietMet, activityMet, reaches, joins, entered, arrivalMet, frameMet, completedMet}
 use Rattle.promise.specs.Noted.{happened, deeds, commanded, noted, byTheRules}
 use Rattle.promise.specs.Outbox.{halted, rests}
@@ -38,7 +39,7 @@ use Rattle.promise.proofs.Among.{AtKeys, _and_, among-keeps}
 use Rattle.promise.proofs.Choices.{pick-keeps, pick-under}
 use Rattle.promise.proofs.Held.{held-in, held-kept}
 use Rattle.promise.proofs.Ledgers.{counted-once, out-same, out-more}
-use Rattle.promise.proofs.Queues.{HoldsLedger, waiting-length, left-waits, kept-long, newest-latest, over-whole}
+use Rattle.promise.proofs.Queues.{HoldsLedger, waiting-length, left-waits, kept-long, newest-latest, over-whole, over-carried}
 use Rattle.promise.proofs.Ranges.{count-below}
 
 -- ---- what the records have as replaced
@@ -119,6 +120,10 @@ over-due l reason true true is waits other over = (waits, refl)
 over-due l reason true false is waits other over = absurd (false≢true over)
 over-due l reason false full is waits other over = absurd (false≢true (sym other ∙ over))
 
+-- what stands behind the same is the same
+pub behind-same : {A : Type 0} (xs ys zs : List A) → xs ++ ys ≡ xs ++ zs → ys ≡ zs
+behind-same xs ys zs alike = sym (drop-append-seam xs ys) ∙ ap (drop (length xs)) alike ∙ drop-append-seam xs zs
+
 -- ---- the step
 
 module _ (d : Device) (r : Records) (s : Step) (before : Holds d r) where
@@ -128,7 +133,13 @@ module _ (d : Device) (r : Records) (s : Step) (before : Holds d r) where
   abbrev q′ : Fifo
   q′ = s .device .rx
 
-  h : HoldsLedger q (r .ledger)
+  abbrev numbers : List ℕ
+  numbers = d .serials .places
+
+  abbrev numbers′ : List ℕ
+  numbers′ = s .device .serials .places
+
+  h : HoldsLedger q numbers (r .ledger)
   h = held-kept d r before .3 .2
 
   over-is : (v : List ℕ) → values (s .given) ≡ v → saysOver (s .given) ≡ eqb (fate v) 6
@@ -139,23 +150,25 @@ module _ (d : Device) (r : Records) (s : Step) (before : Holds d r) where
   unsaid after silent same = (λ over. absurd (false≢true (sym (over-is [] silent) ∙ over)), λ other. same)
 
   -- a frame comes
-  module _ (f : Frame) (after : Records) (behind : HoldsLedger q′ (after .ledger)) where
+  module _ (f : Frame) (after : Records) (behind : HoldsLedger q′ numbers′ (after .ledger)) where
     exchanged : after .ledger ≡ accepts (r .ledger) f true → after .latest ≡ f → leb 8 (left (r .ledger)) ≡ true → values (s .given) ≡ overLatest (newest (r .ledger))
         → Exchanged d r s after
     exchanged grown came full told =
         let l = r .ledger in
-        let taken = map message (l .taken) in
-        let eight : q .count ≡ 8 = omega (arith, leb-true 8 (left l) full, left-waits q l h, count-below q (held-in d r before .0)) in
-        let alike : taken ++ waiting q′ ≡ taken ++ waiting (putOver q (message f)) =
-        subst (λ (m : Ledger). map message (m .taken) ++ waiting q′ ≡ map message (kept m)) grown (behind .whole) ∙ sym (over-whole q l h eight f) in
+        let eight : q .count ≡ 8 = omega (arith, leb-true 8 (left l) full, left-waits q numbers l h, count-below q (held-in d r before .0)) in
         record {
           eight = waiting-length q ∙ eight;
-          eighth = latest-eighth q eight absent ∙ sym (newest-latest q l h eight);
+          eighth = latest-eighth q eight absent ∙ sym (newest-latest q numbers l h eight);
           stands =
-              sym (drop-append-seam taken (waiting q′)) ∙ ap (drop (length taken)) alike ∙ drop-append-seam taken (waiting (putOver q (message f)))
+              behind-same (map message (l .taken)) (waiting q′) (waiting (putOver q (message f)))
+              (subst (λ (m : Ledger). map message (m .taken) ++ waiting q′ ≡ map message (kept m)) grown (behind .whole) ∙ sym (over-whole q numbers l h eight f))
               ∙ over-waits q eight (message f) (h .places) ∙ ap (λ (g : Frame). set (waiting q) 7 (message g)) (sym came);
+          carries =
+              behind-same (serials (l .taken)) (carried (s .device)) (set (carried d) 7 (f .serial))
+              (subst (λ (m : Ledger). serials (m .taken) ++ carried (s .device) ≡ serials (kept m)) grown (behind .carried) ∙ sym (over-carried q numbers l h eight f _ refl))
+              ∙ ap (λ (g : Frame). set (carried d) 7 (g .serial)) (sym came);
           named = told;
-          lost = ap replaced grown ∙ out-more (l .accepted) f blank (omega (arith, kept-long q l h eight, counted-once (l .accepted)));
+          lost = ap replaced grown ∙ out-more (l .accepted) f blank (omega (arith, kept-long q numbers l h eight, counted-once (l .accepted)));
         }
 
     frame-told : (reason : ℕ) → let told = toldBy (r .ledger) reason in
@@ -179,7 +192,7 @@ module _ (d : Device) (r : Records) (s : Step) (before : Holds d r) where
   abbrev completed : Bool → Records
   completed t = completedMet (pick t (arrivalMet r (own r) (fate (due t))) r)
 
-  completes : (t : Bool) → HoldsLedger q′ (completed t .ledger) → values (s .given) ≡ due t → LossTold d r s (completed t)
+  completes : (t : Bool) → HoldsLedger q′ numbers′ (completed t .ledger) → values (s .given) ≡ due t → LossTold d r s (completed t)
   completes true behind is =
       let asked = reasons (filton (r .settings)) (own r) [] in
       frame-told (own r) (completed true) behind (firstTrue asked) (none-sixth asked (refl and tt)) is refl (λ over. refl)
@@ -189,7 +202,7 @@ module _ (d : Device) (r : Records) (s : Step) (before : Holds d r) where
     abbrev after : Event → Records
     after e = happened r e payload (fate (valuesDue r e payload))
 
-    happens : (e : Event) → HoldsLedger q′ (after e .ledger) → values (s .given) ≡ valuesDue r e payload → LossTold d r s (after e)
+    happens : (e : Event) → HoldsLedger q′ numbers′ (after e .ledger) → values (s .given) ≡ valuesDue r e payload → LossTold d r s (after e)
     unfolding happened
     happens (GoodFrame header acknowledged count) behind is =
         let f = arriving r header payload in
@@ -215,7 +228,7 @@ module _ (d : Device) (r : Records) (s : Step) (before : Holds d r) where
   -- ---- every input
 
   event-told : (e : Event) (payload : List ℕ) (t : Bool) → let after = pick t (happened r e payload (fate (valuesDue r e payload))) r in
-      HoldsLedger q′ (after .ledger) → values (s .given) ≡ pick t (valuesDue r e payload) [] → LossTold d r s after
+      HoldsLedger q′ numbers′ (after .ledger) → values (s .given) ≡ pick t (valuesDue r e payload) [] → LossTold d r s after
   event-told e payload true behind is = happens payload e behind is
   event-told e payload false behind is = unsaid r is (inl refl)
 

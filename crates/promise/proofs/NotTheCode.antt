@@ -18,6 +18,7 @@ use Rattle.judged.specs.Judged
 use Rattle.bus.specs.declared.types.Outcome.{Outcome}
 use Rattle.bus.specs.Event
 use Rattle.bus.specs.Hits.{hits}
+use Rattle.bus.specs.Numbers.{numbers}
 use Rattle.bus.specs.Pins.{pins}
 use Rattle.bus.proofs as bus
 use Rattle.why.specs.Why.{explained}
@@ -67,10 +68,10 @@ told s = length (values (s .given))
 
 differ : (told (shipped fresh tick) ≡ 0) × (told (boasts fresh tick) ≡ 1)
 unfolding State.fresh Proper.proper Proper.registersInRange Proper.sendingInRange Proper.actingInRange State.modeOf Queue.empty Queue.inRange
-    Judged.impossible Judged.said Judged.nothing Judged.brings Event.answered Event.answer Event.event Event.valuesOf Event.arrivalValues
+    Judged.impossible Judged.said Judged.givesNumber Judged.noNumberLeft Judged.nothing Judged.brings Event.answered Event.answer Event.event Event.valuesOf Event.arrivalValues
 differ = (refl, refl)
 
-pub not-the-code : IsTheCode boasts pins hits explained fresh → ⊥
+pub not-the-code : IsTheCode boasts pins hits numbers explained fresh → ⊥
 not-the-code code =
     ∥∥₁-elim (has-part (code M .1) arguments given satisfies) (λ x y. absurd x)
     (λ p. suc-ne-zero 0 (sym (differ .1) ∙ sym (ap told (p .1)) ∙ differ .0))

@@ -19,7 +19,7 @@ pub stays : (d : Device) (i : Input) → InRange d → InRange (step d i .device
 stays d (spi bytes buffer) h =
     by-transfer (λ s. InRange (s .device)) d bytes buffer (λ n e wrong. h) (λ r e at. does-in d h (r .verb) (r .index) bytes)
 stays d (wire e payload) h =
-    by-event (λ s. InRange (s .device)) d e payload (λ n wrong. h) (event-in d h e payload)
+    by-event (λ s. InRange (s .device)) d e payload (λ n wrong. h) (λ can left. event-in d h e payload can)
 
 pub fresh-in : InRange fresh
 unfolding fresh modeOf

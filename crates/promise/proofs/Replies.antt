@@ -107,7 +107,7 @@ module _ (d : Device) (r : Records) (range : InRange d) (h : Kept d r) where
   pub statf-same : statfOf d ≡ statf r
   unfolding statfOf statf errw errp rxerrp txerrp
   statf-same =
-      rw (queue-length _ _ _ _ _ _ (h .4), history-length _ _ _ _ _ _ (h .4), left-waits (d .rx) (r .ledger) (h .3 .2), h .2 .0)
+      rw (queue-length _ _ _ _ _ _ (h .4), history-length _ _ _ _ _ _ (h .4), left-waits (d .rx) (d .serials .places) (r .ledger) (h .3 .2), h .2 .0)
 
   err-same : errOf d ≡ err r
   unfolding errOf err levelBits rxerrp txerrp
@@ -137,7 +137,7 @@ module _ (d : Device) (r : Records) (range : InRange d) (h : Kept d r) where
       → take n (cut (next (d .rx)) a (a + c)) ≡ tabulate (λ (i : ℕ). getD (message (oldest (r .ledger)) .bytes) (past a c i) 0) 0 n
   waiting-shown a c n p q some =
       let none = eqb-false (d .rx .count) 0 some in
-      rw (← oldest-next (d .rx) (r .ledger) (h .3 .2) (d .rx .count - 1) (omega (arith, none)))
+      rw (← oldest-next (d .rx) (d .serials .places) (r .ledger) (h .3 .2) (d .rx .count - 1) (omega (arith, none)))
       (cut-shown (message (oldest (r .ledger))) a c n (message-sized (oldest (r .ledger))) p q)
 
   -- of the latest frame

@@ -1,12 +1,12 @@
 -- No wrong device keeps its promise. Assumes nothing.
-use mathlib.Core.Path.{_≡_, refl, sym, _∙_, ap}
+use mathlib.Core.Path.{_≡_, refl, sym, _∙_, ap, ap₂}
 use mathlib.Core.Bool.{Bool, true, false, not, _&&_, _||_, false≢true}
 use mathlib.Core.List.{List, [], _∷_, _++_, map}
 use mathlib.Core.Logic.{inl, inr}
 use Prim.Native.Nat.{ℕ}
 use native.Mathlib.Omega.{arith}
-use borrow.Author.Tests.{eq-eqb, ne-eqb, eqb-false}
-use lib.Dec.{eqb}
+use borrow.Author.Tests.{lt-ltb, le-leb, ltb-true, eq-eqb, ne-eqb, eqb-true, eqb-false}
+use lib.Dec.{eqb, ltb}
 use lib.ListN.{length, replicate, getD, set}
 use Rattle.fifo.specs.declared.Message.{Message}
 use Rattle.fifo.specs.Queue.{waiting}
@@ -22,7 +22,9 @@ use Rattle.events.specs.declared.Event.the-variants.{GoodFrame}
 use Rattle.why.specs.declared.Place.{Place}
 use Rattle.why.specs.declared.Why.{Why}
 use Rattle.why.specs.Why.{noFilter}
+use Rattle.bus.specs.declared.types.Numbers.{Numbers as NumbersGiven}
 use Rattle.bus.specs.Hits.{hits}
+use Rattle.bus.specs.Numbers.{numbers as numbersOf}
 use Rattle.bus.specs.Pins.{pins}
 use Rattle.chip.specs.declared.Device.{Device}
 use Rattle.chip.specs.State.{fresh}
@@ -32,12 +34,14 @@ use Rattle.promise.specs.Numbers.{Fits, Answered, First, Refused, Untouc
 use Rattle.promise.specs.Outbox.{Running, none, first, alone}
 use Rattle.promise.specs.Due.{Due}
 use Rattle.promise.specs.Held.{Each, Runs, Settled, Counted, Timed, Seen, Raised, Pinned, Whole, AsArrived, AsWritten}
-use Rattle.promise.specs.After.{recorded, After, Answers, LosesAsTold, Same, Onward}
+use Rattle.promise.specs.After.{recorded, After, Answers, LosesAsTold, TakesFirst, Same, Onward}
 use Rattle.promise.specs.Arrivals.{overLatest}
-use Rattle.promise.specs.Ledger.{frames, newest}
+use Rattle.promise.specs.Ledger.{frames, oldest, newest}
 use Rattle.promise.specs.Losses.{saysOver, NoneReplaced, LossTold}
 use Rattle.promise.specs.Noted.{noted, byTheRules}
+use Rattle.promise.specs.Numbering.{carried, listed, LastGiven, Carries, Rises, Rising, Distinct, readsOne, FirstTaken, CountsOn, nothingTold, ToldOfAny, Listed}
 use Rattle.promise.specs.Questions.{InEveryDevice, Told}
+use Rattle.promise.specs.Ranges.{deviceInRange}
 use Rattle.promise.specs.Explanations.{TheDevices, countsAt, before, IsFirst, noPlace, EachHasOne, Pointed}
 use Rattle.promise.specs.Filters.{compared}
 use Rattle.promise.specs.Settings.{patterns}
@@ -45,9 +49,10 @@ use Rattle.promise.specs.Records.{Records}
 use Rattle.promise.specs.Own.{ownMessage}
 use Rattle.promise.proofs.Cases.{Case, lost, undue, unsettled, miscounted, mistimed, unseen, unraised, unwritten, unlike, untold, misshown, unlikeItself}
 use Rattle.promise.proofs.Cases.{misjudged, misanswered, changing, mistold, misasked, misled, mispointed, astray, cases}
+use Rattle.promise.proofs.Cases.{uncounted, restarted, uncarried, unordered, repeated, untaken, mislisted, misnumbered}
 use Rattle.promise.proofs.Explanations.{is-a4, a4-is}
 use Rattle.promise.proofs.Queues.{Shown}
-use Rattle.promise.proofs.Sides.{alike, alike-self, counted, lostSince, shownHits, allBytes, counts, settingBytes, levels, numbers, numbersDue, refusal, buffered, runningBytes, pointedAt, sides, differ}
+use Rattle.promise.proofs.Sides.{alike, alike-self, counted, lostSince, shownHits, allBytes, counts, settingBytes, levels, numbers, numbersDue, refusal, buffered, runningBytes, pointedAt, waitsAndRuns, rises, toldIn, sides, differ}
 
 -- the promise that a case breaks
 abbrev pub Promise : Case → Type 0
@@ -70,7 +75,15 @@ Promise (mistold ask is h count payload) = After shipped (Told ask)
 Promise (misasked ask d h count payload) = InEveryDevice ask
 Promise (misled explain d h acknowledged count payload) = TheDevices shipped explain
 Promise (mispointed explain d h acknowledged count payload at) = Pointed explain
-Promise (astray w d r h i) = Onward w pins hits
+Promise (uncounted w is) = After w LastGiven
+Promise (restarted w d i) = CountsOn w
+Promise (uncarried w is) = After w Carries
+Promise (unordered w is) = After w Rising
+Promise (repeated w is i j) = After w Distinct
+Promise (untaken w is i) = After w (TakesFirst w)
+Promise (mislisted list is) = After shipped (Listed list)
+Promise (misnumbered list d) = ToldOfAny list
+Promise (astray w d r h i) = Onward w pins hits numbersOf
 
 -- ---- each promise makes its two sides equal
 
@@ -95,9 +108,9 @@ none-lost r after (inl same) = rw same (omega arith)
 none-lost r after (inr cleared) = rw cleared (omega arith)
 
 loss-sides : (d : Device) (r : Records) (s : Step) (after : Records) (t : Bool) → saysOver (s .given) ≡ t → LossTold d r s after
-    → pick t (length (waiting (d .rx)) ∷ values (s .given) ++ allBytes (waiting (s .device .rx))) (lostSince r after ∷ [])
-    ≡ pick t (8 ∷ overLatest (newest (r .ledger)) ++ allBytes (set (waiting (d .rx)) 7 (message (after .latest)))) (0 ∷ [])
-loss-sides d r s after true over told = rw (told .0 over .eight, told .0 over .named, told .0 over .stands)
+    → pick t (length (waiting (d .rx)) ∷ values (s .given) ++ carried (s .device) ++ allBytes (waiting (s .device .rx))) (lostSince r after ∷ [])
+    ≡ pick t (8 ∷ overLatest (newest (r .ledger)) ++ set (carried d) 7 (after .latest .serial) ++ allBytes (set (waiting (d .rx)) 7 (message (after .latest)))) (0 ∷ [])
+loss-sides d r s after true over told = rw (told .0 over .eight, told .0 over .named, told .0 over .stands, told .0 over .carries)
 loss-sides d r s after false other told = ap (λ n. n ∷ []) (none-lost r after (told .1 other))
 
 -- an answer is a refusal exactly if its number is not 0
@@ -107,15 +120,38 @@ fits-refusal (spi bytes buffer) (answered a) fits = absurd fits
 fits-refusal (wire e payload) (replied n after) fits = refl
 fits-refusal (wire e payload) (answered a) fits = ap flag fits
 
--- what a refusal leaves has the same queue
-untouched-count : (d : Device) (i : Input) (s : Step) → Untouched d i s → s .device .rx .count ≡ d .rx .count
-untouched-count d (spi bytes buffer) s is = ap (λ (s : Step). s .device .rx .count) is
-untouched-count d (wire e payload) s is = ap (λ (s : Step). s .device .rx .count) is
+-- what a refusal leaves is the same device
+untouched-device : (d : Device) (i : Input) (s : Step) → Untouched d i s → s .device ≡ d
+untouched-device d (spi bytes buffer) s is = ap (λ (s : Step). s .device) is
+untouched-device d (wire e payload) s is = ap (λ (s : Step). s .device) is
 
-left-count : (t : Bool) (d : Device) (i : Input) (s : Step) → eqb (number (s .given)) 0 ≡ t → ((number (s .given) ≡ 0 → ⊥) → Untouched d i s)
-    → pick t (d .rx .count) (s .device .rx .count) ≡ d .rx .count
-left-count true d i s is kept = refl
-left-count false d i s is kept = untouched-count d i s (kept (eqb-false (number (s .given)) 0 is))
+left-device : (t : Bool) (d : Device) (i : Input) (s : Step) → eqb (number (s .given)) 0 ≡ t → ((number (s .given) ≡ 0 → ⊥) → Untouched d i s)
+    → pick t d (s .device) ≡ d
+left-device true d i s is kept = refl
+left-device false d i s is kept = untouched-device d i s (kept (eqb-false (number (s .given)) 0 is))
+
+-- numbers that rise, and places of a list that differ
+rises-true : (above last : ℕ) (ns : List ℕ) → Rises above last ns → rises above last ns ≡ true
+rises-true above last [] h = le-leb above last h
+rises-true above last (n ∷ ns) h = rw (lt-ltb above n (h .0)) (rises-true n last ns (h .1))
+
+apart : (before within same : Bool) → (before ≡ true → within ≡ true → same ≡ true → ⊥) → (before && (within && same)) ≡ false
+apart true true true never = absurd (never refl refl refl)
+apart true true false never = refl
+apart true false same never = refl
+apart false within same never = refl
+
+-- what is told of a device, by whether it is in range
+by-range : (t : Bool) (told : NumbersGiven) → (t ≡ true → told .number ≡ 0) × (t ≡ false → told ≡ nothingTold 1)
+    → pick t (told .number ∷ []) (toldIn told) ≡ pick t (0 ∷ []) (toldIn (nothingTold 1))
+by-range true told is = ap (λ n. n ∷ []) (is .0 refl)
+by-range false told is = ap toldIn (is .1 refl)
+
+-- a read, by whether it is one
+by-read : (t : Bool) (d : Device) (r : Records) (s : Step) (after : Records) → (t ≡ true → FirstTaken d r s after)
+    → pick t (carried d) [] ≡ pick t (oldest (r .ledger) .serial ∷ carried (s .device)) []
+by-read true d r s after takes = takes refl .first
+by-read false d r s after takes = refl
 
 -- a place that is the first
 implied : (e : Bool) (x y : ℕ) → (e ≡ true → x ≡ y) → (not e || eqb x y) ≡ true
@@ -162,7 +198,7 @@ equal (misshown look is) holds = ap levels (holds is)
 equal (unlikeItself w is) holds = first-shown (frames (recorded w is .ledger)) (holds is .1)
 equal (misjudged w d i) holds = ap (λ n. n ∷ []) (holds d i)
 equal (misanswered w d i) holds = ap (λ n. n ∷ []) (fits-refusal i (w d i .given) (holds d i .1))
-equal (changing w d i) holds = ap (λ n. n ∷ []) (left-count (eqb (numberGiven w d i) 0) d i (w d i) refl (holds d i))
+equal (changing w d i) holds = ap waitsAndRuns (left-device (eqb (numberGiven w d i) 0) d i (w d i) refl (holds d i))
 equal (mistold ask is h count payload) holds = ap shownHits (holds is h count payload)
 equal (misasked ask d h count payload) holds = ap shownHits (holds d h count payload)
 equal (misled explain d h acknowledged count payload) holds =
@@ -170,6 +206,21 @@ equal (misled explain d h acknowledged count payload) holds =
 equal (mispointed explain d h acknowledged count payload at) holds =
     let w = explain d h acknowledged count payload in
     by-a4 d h payload at w (noFilter (w .answer)) refl (holds d h acknowledged count payload)
+equal (uncounted w is) holds = ap (λ n. n ∷ []) (holds is)
+equal (restarted w d i) holds = ap (λ n. n ∷ []) (holds d i)
+equal (uncarried w is) holds = ap₂ (λ n ns. n ∷ ns) (holds is .1) (holds is .0)
+equal (unordered w is) holds = ap (λ t. flag t ∷ []) (rises-true 0 (run w fresh is .serials .last) (carried (run w fresh is)) (holds is))
+equal (repeated w is i j) holds =
+    let ns = listed (run w fresh is) (recorded w is) in
+    ap (λ t. flag t ∷ [])
+    (apart (ltb i j) (ltb j (length ns)) (eqb (getD ns i 0) (getD ns j 0))
+    (λ before within same. holds is i j (ltb-true i j before) (ltb-true j (length ns) within) (eqb-true (getD ns i 0) (getD ns j 0) same)))
+equal (untaken w is i) holds =
+    let d = run w fresh is in
+    let r = recorded w is in
+    by-read (readsOne i (w d i .given)) d r (w d i) (noted byTheRules r i (w d i .given)) (holds is i)
+equal (mislisted list is) holds = ap toldIn (holds is)
+equal (misnumbered list d) holds = by-range (deviceInRange d) (list d) (holds d)
 equal (astray w d r h i) holds = given-due r i (w d i .given) (holds d r h .1 i)
 
 -- ---- and in no case are they

@@ -13,7 +13,7 @@ use Rattle.chip.specs.Proper.{proper}
 use Rattle.events.specs.declared.Event.{Event}
 use Rattle.judged.specs.declared.Answer.{Answer}
 use Rattle.judged.specs.declared.Answer.the-variants.{Refused as RefusedEvent}
-use Rattle.judged.specs.Judged.{impossible, said, brings}
+use Rattle.judged.specs.Judged.{impossible, said, noNumberLeft, brings}
 use Rattle.bus.specs.declared.types.Outcome.{Outcome}
 use Rattle.receive.specs.Receive.{hits}
 use Rattle.bus.specs.Event.{answered as answeredBy, answer, outcome, event}
@@ -129,17 +129,19 @@ outcomeOf d e payload a = let b = brings d e payload in outcome d e b (hits d b)
 abbrev pub doneEvent : Device → Event → List ℕ → Answer → Step
 doneEvent d e payload a = record { device = outcomeOf d e payload a .device; given = answered (outcomeOf d e payload a .answer) }
 
-by-checks : (P : Step → Type 0) (d : Device) (e : Event) (payload : List ℕ) (p q : Bool) (a : Answer)
+by-checks : (P : Step → Type 0) (d : Device) (e : Event) (payload : List ℕ) (p q s : Bool) (a : Answer)
     → ((n : ℕ) → eqb n 0 ≡ false → P (refusedEvent d n))
-    → (q ≡ false → P (doneEvent d e payload a))
-    → P (doneEvent d e payload (pick p (pick q (RefusedEvent 8) a) (RefusedEvent 1)))
-by-checks P d e payload true true a no-way way = no-way 8 refl
-by-checks P d e payload true false a no-way way = way refl
-by-checks P d e payload false q a no-way way = no-way 1 refl
+    → (q ≡ false → s ≡ false → P (doneEvent d e payload a))
+    → P (doneEvent d e payload (pick p (pick q (RefusedEvent 8) (pick s (RefusedEvent 12) a)) (RefusedEvent 1)))
+by-checks P d e payload true true s a no-way way = no-way 8 refl
+by-checks P d e payload true false true a no-way way = no-way 12 refl
+by-checks P d e payload true false false a no-way way = way refl refl
+by-checks P d e payload false q s a no-way way = no-way 1 refl
 
 pub by-event : (P : Step → Type 0) (d : Device) (e : Event) (payload : List ℕ)
     → ((n : ℕ) → eqb n 0 ≡ false → P (refusedEvent d n))
-    → (impossible d e ≡ false → P (doneEvent d e payload (saidOf d e payload)))
+    → (impossible d e ≡ false → noNumberLeft d (saidOf d e payload) ≡ false → P (doneEvent d e payload (saidOf d e payload)))
     → P (step d (wire e payload))
 unfolding event answer answeredBy
-by-event P d e payload no-way way = by-checks P d e payload (proper d) (impossible d e) (saidOf d e payload) no-way way
+by-event P d e payload no-way way =
+    by-checks P d e payload (proper d) (impossible d e) (noNumberLeft d (saidOf d e payload)) (saidOf d e payload) no-way way

@@ -1,5 +1,6 @@
 -- Demands 2 and 3: after every sequence from a fresh device, and in any device that records describe.
 use mathlib.Core.Path.{_≡_}
+use mathlib.Core.Bool.{true}
 use mathlib.Core.List.{List}
 use Rattle.chip.specs.declared.Device.{Device}
 use Rattle.chip.specs.State.{fresh}
@@ -8,6 +9,7 @@ use Rattle.promise.specs.Sequence.{Input, Machine, run, conversation}
 use Rattle.promise.specs.Due.{Due}
 use Rattle.promise.specs.Held.{Pinned, Holds}
 use Rattle.promise.specs.Losses.{LossTold}
+use Rattle.promise.specs.Numbering.{Lister, readsOne, FirstTaken, Listed}
 use Rattle.promise.specs.Noted.{noted, byTheRules, byTheAnswers, recordsBy, records}
 use Rattle.promise.specs.Questions.{Question, Told}
 use Rattle.promise.specs.Records.{Records}
@@ -32,14 +34,20 @@ module _ (step : Machine) where
   abbrev pub LosesAsTold : Device → Records → Type 0
   LosesAsTold d r = (i : Input) → LossTold d r (step d i) (noted byTheRules r i (step d i .given))
 
+  -- Whatever read comes next takes the message whose number was first.
+  abbrev pub TakesFirst : Device → Records → Type 0
+  TakesFirst d r = (i : Input) → let s = step d i in
+      readsOne i (s .given) ≡ true → FirstTaken d r s (noted byTheRules r i (s .given))
+
   -- Whoever goes by what was answered writes down the same.
   abbrev pub Same : Type 0
   Same = (is : List Input) → recordsBy byTheAnswers (conversation step fresh is) ≡ recorded is
 
   -- In any device that holds what some records have, the pins show them, an input gets the answer that it is due, the
-  -- device after it holds what they then have, what is lost is told, and the filters are told as they stand in them.
-  abbrev pub Onward : (Device → Pins) → Question → Type 0
-  Onward look ask = (d : Device) (r : Records) → Holds d r
+  -- device after it holds what they then have, what is lost is told, a read takes the first, and filters and numbers
+  -- are told as they stand in them.
+  abbrev pub Onward : (Device → Pins) → Question → Lister → Type 0
+  Onward look ask list = (d : Device) (r : Records) → Holds d r
       → Pinned look d r × Answers d r
       × ((i : Input) → Holds (step d i .device) (noted byTheRules r i (step d i .given)))
-      × LosesAsTold d r × Told ask d r
+      × LosesAsTold d r × TakesFirst d r × Told ask d r × Listed list d r

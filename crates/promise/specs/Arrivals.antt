@@ -1,8 +1,8 @@
 -- A frame that arrives, from the bus or in loopback of our own, and what it has to be told (01, Numbers given back, and
 -- Modes and filters).
-use mathlib.Core.Bool.{Bool, not, _&&_, _||_}
+use mathlib.Core.Bool.{Bool, true, not, _&&_, _||_}
 use mathlib.Core.List.{List, [], _∷_, _++_}
-use Prim.Native.Nat.{ℕ, _%_}
+use Prim.Native.Nat.{ℕ, _+_, _%_}
 use lib.Dec.{eqb, leb}
 use Rattle.base.specs.Pick.{pick, flag}
 use Rattle.frame.specs.declared.Header.{Header}
@@ -29,12 +29,14 @@ matching s h payload = hitsOf (s .filters) (s .masks) (compared h payload)
 abbrev pub hitsNow : Settings → Header → List ℕ → ℕ
 hitsNow s h payload = pick (filton s) (matching s h payload) 0
 
+-- if it gets a number, it is the next
 abbrev pub arriving : Records → Header → List ℕ → Frame
 arriving r h payload = record {
   header = h;
   payload = payload;
   time = time r;
   hits = hitsNow (r .settings) h payload;
+  serial = r .arrivals + 1;
 }
 
 -- the own message that runs, as a frame
@@ -51,6 +53,11 @@ Reason = Bool × ℕ
 abbrev pub firstTrue : List Reason → ℕ
 firstTrue [] = 0
 firstTrue (r ∷ rs) = pick (r .0) (r .1) (firstTrue rs)
+
+-- whether none does
+abbrev pub noneTrue : List Reason → Bool
+noneTrue [] = true
+noneTrue (r ∷ rs) = not (r .0) && noneTrue rs
 
 -- "A1 the mode doesn't take bus frames (initialization, sleep, loopback); A2 bus off; A3 monitor mode, and no other
 -- node acknowledged it"

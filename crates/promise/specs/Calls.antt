@@ -6,6 +6,7 @@
 use denote.Ref.{now}
 use Rattle.chip.specs.declared.Device.{Device}
 use Rattle.bus.specs.declared.types.Hits.{Hits}
+use Rattle.bus.specs.declared.types.Numbers.{Numbers}
 use Rattle.bus.specs.declared.types.Pins.{Pins}
 use Rattle.bus.proofs as bus
 use Rattle.chip.proofs as chip
@@ -14,6 +15,7 @@ use Rattle.why.specs.declared.Why.{Why}
 use Rattle.why.proofs as why
 use Rattle.one.specs.Law.{Inputs, Outcome, Equates}
 use Rattle.one.specs.Shapes.{at}
+use Rattle.promise.specs.Numbering.{Lister}
 use Rattle.promise.specs.Questions.{Question}
 use Rattle.promise.specs.Explanations.{Explainer}
 use Rattle.promise.specs.Sequence.{spi, wire, Given, replied, answered, Step, Machine}
@@ -52,6 +54,12 @@ module _ (M : Type 1) where
       Equates M bus.hits.ended bus.hits.spec (λ a. Hits) (λ a x. x .0)
       (at bus.hits.ended Hits (λ lifetimes d h given payload. ask d h given payload))
 
+  -- `bus::numbers(d)`
+  abbrev pub Lists : Lister → Type 2
+  Lists list =
+      Equates M bus.numbers.ended bus.numbers.spec (λ a. Numbers) (λ a x. x .0)
+      (at bus.numbers.ended Numbers (λ lifetimes d. list d))
+
   -- `why::explained(d, h, acknowledged, given, payload)`
   abbrev pub Explains : Explainer → Type 2
   Explains explain =
@@ -64,7 +72,8 @@ module _ (M : Type 1) where
       Equates M chip.fresh.ended chip.fresh.spec (λ a. Device) (λ a x. x .0)
       (at chip.fresh.ended Device (λ lifetimes. first))
 
-abbrev pub IsTheCode : Machine → (Device → Pins) → Question → Explainer → Device → Type 2
-IsTheCode step look ask explain first =
+abbrev pub IsTheCode : Machine → (Device → Pins) → Question → Lister → Explainer → Device → Type 2
+IsTheCode step look ask list explain first =
     (M : Type 1)
-    → Transfers M step × Events M step × Asked M step × Looks M look × Tells M ask × Explains M explain × Begins M first
+    → Transfers M step × Events M step × Asked M step × Looks M look × Tells M ask × Lists M list × Explains M explain
+    × Begins M first

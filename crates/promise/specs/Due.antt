@@ -10,7 +10,7 @@ use Rattle.base.specs.Pick.{pick}
 use Rattle.promise.specs.Sequence.{Input, spi, wire, Given, replied, number, values}
 use Rattle.promise.specs.Arrivals.{valuesDue}
 use Rattle.promise.specs.Ledger.{left}
-use Rattle.promise.specs.Numbers.{Situation, numberDue}
+use Rattle.promise.specs.Numbers.{Situation, noneBehind, numberDue}
 use Rattle.promise.specs.Outbox.{rests}
 use Rattle.promise.specs.Records.{Records}
 use Rattle.promise.specs.Registers.{shown}
@@ -27,6 +27,7 @@ situationOf r = record {
   toSend = length (r .outbox .queue);
   toRead = left (r .ledger);
   entries = length (r .outbox .history);
+  spent = noneBehind (r .arrivals);
 }
 
 -- "A success fills the start of the buffer with the reply; later bytes stay."

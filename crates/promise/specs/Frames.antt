@@ -17,13 +17,15 @@ pub record Frame : Type 0 where
   -- the time tag at its arrival, and the filters that it hit then
   pub time : ℕ
   pub hits : ℕ
+  -- the arrival number that it got
+  pub serial : ℕ
 
--- where none came: its message is all zeros
+-- where none came: its message is all zeros, and no number was given
 abbrev pub blankHeader : Header
 blankHeader = record { id = 0; extended = false; remote = false; code = 0 }
 
 abbrev pub blank : Frame
-blank = record { header = blankHeader; payload = []; time = 0; hits = 0 }
+blank = record { header = blankHeader; payload = []; time = 0; hits = 0; serial = 0 }
 
 -- its sixteen bytes by Table 5, "what it says of the message fixed when stored"
 abbrev pub message : Frame → Message

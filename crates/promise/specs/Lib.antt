@@ -18,6 +18,7 @@ pub mod Registers
 pub mod Ranges
 pub mod Numbers
 pub mod Due
+pub mod Numbering
 pub mod Held
 pub mod Losses
 pub mod Questions
@@ -26,6 +27,7 @@ pub mod After
 pub mod Worked
 pub mod Wrong
 pub mod WrongLosses
+pub mod WrongNumbers
 pub mod WrongRegisters
 pub mod WrongQuestions
 pub mod WrongExplanations

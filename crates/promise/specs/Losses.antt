@@ -11,6 +11,7 @@ use Rattle.promise.specs.Sequence.{Given, Step, values, fate}
 use Rattle.promise.specs.Arrivals.{overLatest}
 use Rattle.promise.specs.Frames.{message}
 use Rattle.promise.specs.Ledger.{emptyLedger, replaced, newest}
+use Rattle.promise.specs.Numbering.{carried}
 use Rattle.promise.specs.Records.{Records}
 
 -- "the event answers Queued-over-latest"
@@ -24,6 +25,8 @@ pub record Exchanged (d : Device) (r : Records) (s : Step) (after : Records) : T
   pub eighth : getD (waiting (d .rx)) 7 absent ≡ message (newest (r .ledger))
   -- what waits is what waited, the eighth exchanged for the frame that came: "eight stay waiting"
   pub stands : waiting (s .device .rx) ≡ set (waiting (d .rx)) 7 (message (after .latest))
+  -- and with it the number: its own, and not the lost one's
+  pub carries : carried (s .device) ≡ set (carried d) 7 (after .latest .serial)
   -- "The event names the identifier that was lost"
   pub named : values (s .given) ≡ overLatest (newest (r .ledger))
   -- and that frame is the one that the list now leaves out

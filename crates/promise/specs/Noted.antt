@@ -18,7 +18,7 @@ use Rattle.promise.specs.Commands.{messageReads, sameFor}
 use Rattle.promise.specs.Frames.{Frame, blank}
 use Rattle.promise.specs.Hits.{filhitOf}
 use Rattle.promise.specs.Records.{Records, start, with-settings, with-counters, with-ticks, with-kinds}
-use Rattle.promise.specs.Records.{with-flags, with-ledger, with-latest, with-outbox}
+use Rattle.promise.specs.Records.{with-flags, with-ledger, with-latest, with-arrivals, with-outbox}
 use Rattle.promise.specs.Settings.{loopback, sleep, Settings, resetTo, modeWritten, asleep, awake, disabled}
 use Rattle.promise.specs.Settings.{withoutTx1m, with-pin, settingWrites, asksReset, wakeup, bor, osm}
 use Rattle.promise.specs.Counting.{recUp, frameHeard, tecUp, tecDown, unlessMonitor, groupMet, recWritten}
@@ -31,7 +31,8 @@ use Rattle.promise.specs.Outbox.{emptied, queued, begun, halted, cleared
 -- ---- modes and resets
 
 -- "0x5A, 0x56, the MR pin and any register bit that 000 makes a master reset clear the receive FIFO." "ERR keeps its
--- bits over a reset; so do REC, TEC and bus off". It raises no flag. CTRL0 then reads 0x80, or 0x88 by RESET.
+-- bits over a reset; so do REC, TEC and bus off"; an arrival number is "not reset by anything" (02, g)). It raises no
+-- flag. CTRL0 then reads 0x80, or 0x88 by RESET.
 abbrev pub reset : Records → ℕ → Records
 reset r ctrl0 = record {
   settings = resetTo (r .settings) ctrl0;
@@ -41,6 +42,7 @@ reset r ctrl0 = record {
   flags = [];
   ledger = emptyLedger;
   latest = blank;
+  arrivals = r .arrivals;
   outbox = emptied;
 }
 
@@ -84,12 +86,12 @@ joins told = eqb told 0 || eqb told 6
 abbrev pub entered : Ledger → Frame → ℕ → Ledger
 entered l f told = pick (joins told) (accepts l f (eqb told 6)) l
 
--- A frame that reaches the temporary buffer, by what it is told. RXTMP rises, RXFIFO if it is queued, F0MESS or
--- F1MESS if filter 0 or 1 is the lowest match.
+-- A frame that reaches the temporary buffer, by what it is told: it "is not answered A1 to A3", and so gets the next
+-- number (02, g)). RXTMP rises, RXFIFO if it is queued, F0MESS or F1MESS if filter 0 or 1 is the lowest match.
 abbrev pub arrivalMet : Records → Frame → ℕ → Records
 arrivalMet r f told =
     with-flags
-    (with-ledger (with-latest r f) (entered (r .ledger) f told))
+    (with-arrivals (with-ledger (with-latest r f) (entered (r .ledger) f told)) (r .arrivals + 1))
     (raise (eqb (filhitOf (f .hits)) 0b1001) f1mess
     (raise (eqb (filhitOf (f .hits)) 0b1000) f0mess (raise (joins told) rxfifo (rxtmp ∷ r .flags))))
 

@@ -1,9 +1,9 @@
--- Demand 1: every input in every device is answered, by 01's table of numbers (01, Numbers given back).
+-- Demand 1: every input in every device is answered, by 01's table of numbers (01, Numbers given back; 02, g)).
 use mathlib.Core.Path.{_≡_}
 use mathlib.Core.Bool.{Bool, true, false, not, _&&_, _||_}
 use mathlib.Core.List.{List, [], _∷_, _++_}
 use mathlib.Core.Logic.{_↔_}
-use Prim.Native.Nat.{ℕ, zero, suc, _<_, _≤_}
+use Prim.Native.Nat.{ℕ, zero, suc, _-_, _^_, _<_, _≤_}
 use lib.Dec.{eqb, leb, ltb}
 use lib.ListN.{length}
 use Rattle.base.specs.Bit.{byte}
@@ -18,6 +18,7 @@ use Rattle.bus.specs.Event.{numberOf}
 use Rattle.judged.specs.declared.Answer.{Answer}
 use Rattle.judged.specs.declared.Answer.the-variants.{Refused as RefusedEvent, Done, Arrived}
 use Rattle.promise.specs.Sequence.{Input, spi, wire, Given, replied, answered, Step, Machine, number, run}
+use Rattle.promise.specs.Arrivals.{noneTrue, fromTheBus}
 use Rattle.promise.specs.Commands.{messageReads, setsUp, sameFor, isCommand, lengthsOf, transferFits}
 use Rattle.promise.specs.Frames.{canArrive}
 use Rattle.promise.specs.Ranges.{deviceInRange}
@@ -37,6 +38,12 @@ pub record Situation : Type 0 where
   pub toSend : ℕ
   pub toRead : ℕ
   pub entries : ℕ
+  -- the last arrival number has been given
+  pub spent : Bool
+
+-- 02, g): a number of "64 bits"
+abbrev pub noneBehind : ℕ → Bool
+noneBehind given = eqb given (2 ^ 64 - 1)
 
 abbrev pub situation : Device → Situation
 situation d = record {
@@ -48,6 +55,7 @@ situation d = record {
   toSend = d .tx .count;
   toRead = d .rx .count;
   entries = d .history .count;
+  spent = noneBehind (d .serials .last);
 }
 
 -- ---- 8
@@ -80,6 +88,25 @@ cannotBe s (TxenPin level) = false
 cannotBe s MrPin = false
 cannotBe s Unknown = true
 
+-- ---- 12
+
+-- 02, g): "Each good frame that is not answered A1 to A3 gets an arrival number"; "or loopback completion"
+unfoldable pub getsNumber : Situation → Event → Bool
+getsNumber s (GoodFrame h acknowledged count) = noneTrue (fromTheBus (s .acting) (s .busoff) acknowledged)
+getsNumber s Completed = eqb (s .acting) loopback
+getsNumber s (ReceiveError kind) = false
+getsNumber s DominantBit = false
+getsNumber s (TransmitError kind counted) = false
+getsNumber s Begun = false
+getsNumber s ArbitrationLost = false
+getsNumber s ElevenRecessive = false
+getsNumber s BusQuiet = false
+getsNumber s BusActivity = false
+getsNumber s (Ticks count) = false
+getsNumber s (TxenPin level) = false
+getsNumber s MrPin = false
+getsNumber s Unknown = false
+
 -- ---- the table
 
 abbrev pub emptyTransfer : List ℕ → Bool
@@ -89,7 +116,7 @@ emptyTransfer bytes = eqb (length bytes) 0
 unfoldable pub findsNone : Situation → ℕ → Bool
 findsNone s c = among c (sameFor messageReads (eqb (s .toRead) 0) ++ (0xEE, eqb (s .entries) 0) ∷ []) false
 
--- 01's rows, in its order: whether number n applies
+-- 01's rows, and 02's, in their order: whether number n applies
 abbrev pub applies : Situation → Input → ℕ → Bool
 applies s (spi bytes buffer) n =
     let c = byte bytes 1 in
@@ -103,7 +130,8 @@ applies s (spi bytes buffer) n =
     (7, findsNone s c) ∷
     [])
     false
-applies s (wire e payload) n = among n ((1, not (s .deviceFits)) ∷ (8, cannotBe s e) ∷ []) false
+applies s (wire e payload) n =
+    among n ((1, not (s .deviceFits)) ∷ (8, cannotBe s e) ∷ (12, getsNumber s e && s .spent) ∷ []) false
 
 -- of m numbers from k on, the first that applies; 0 if none does
 abbrev pub firstFrom : (ℕ → Bool) → ℕ → ℕ → ℕ
@@ -112,7 +140,7 @@ firstFrom says k (suc m) = pick (says k) k (firstFrom says (suc k) m)
 
 -- "Checks run in rising order; the first that applies is given, and none otherwise."
 unfoldable pub numberDue : Situation → Input → ℕ
-numberDue s i = firstFrom (applies s i) 1 8
+numberDue s i = firstFrom (applies s i) 1 12
 
 -- ---- the promises
 
@@ -139,7 +167,7 @@ module _ (step : Machine) where
 
   -- Every input in every device is answered, by one of 01's numbers.
   abbrev pub Answered : Type 0
-  Answered = (d : Device) (i : Input) → (numberGiven d i ≤ 8) × Fits i (step d i .given)
+  Answered = (d : Device) (i : Input) → (numberGiven d i ≤ 12) × Fits i (step d i .given)
 
   -- The number is the first that applies, and 0 if none does.
   abbrev pub First : Type 0
@@ -147,7 +175,7 @@ module _ (step : Machine) where
 
   -- Each number but 0 is given exactly when it applies and no lower one does.
   abbrev pub Exactly : Type 0
-  Exactly = (d : Device) (i : Input) (n : ℕ) → 0 < n → n ≤ 8
+  Exactly = (d : Device) (i : Input) (n : ℕ) → 0 < n → n ≤ 12
       → (numberGiven d i ≡ n)
       ↔ ((applies (situation d) i n ≡ true) × ((m : ℕ) → 0 < m → m < n → applies (situation d) i m ≡ false))
 

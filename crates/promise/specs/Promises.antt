@@ -1,6 +1,7 @@
 -- What is promised of the device that is shipped: a line for each promise, which the file named above its group says in
 -- full. docs/PROMISES.md tells them in plain words.
 use Rattle.bus.specs.Hits.{hits}
+use Rattle.bus.specs.Numbers.{numbers}
 use Rattle.bus.specs.Pins.{pins}
 use Rattle.chip.specs.State.{fresh}
 use Rattle.why.specs.Why.{explained}
@@ -8,15 +9,16 @@ use Rattle.promise.specs.Sequence.{shipped}
 use Rattle.promise.specs.Calls.{IsTheCode}
 use Rattle.promise.specs.Numbers.{Answered, First, Exactly, Refused, NeverOne}
 use Rattle.promise.specs.Held.{Settled, Counted, Timed, Seen, Raised, Pinned, Whole, AsArrived, AsWritten}
+use Rattle.promise.specs.Numbering.{LastGiven, Carries, Rising, Distinct, CountsOn, ToldOfAny, Listed}
 use Rattle.promise.specs.Questions.{InEveryDevice, Told}
 use Rattle.promise.specs.Explanations.{TheDevices, Pointed}
-use Rattle.promise.specs.After.{After, Answers, LosesAsTold, Same, Onward}
+use Rattle.promise.specs.After.{After, Answers, LosesAsTold, TakesFirst, Same, Onward}
 use Rattle.promise.specs.Worked.{Worked}
 
 -- ---- what they speak of (Calls)
 
 abbrev pub TheMachineIsTheCode : Type 2
-TheMachineIsTheCode = IsTheCode shipped pins hits explained fresh
+TheMachineIsTheCode = IsTheCode shipped pins hits numbers explained fresh
 
 -- ---- demand 1 (Numbers)
 
@@ -89,10 +91,36 @@ OwnMessagesAreThoseWritten = After shipped AsWritten
 abbrev pub TheAnswersKeepTheRecords : Type 0
 TheAnswersKeepTheRecords = Same shipped
 
+-- ---- and of the arrival numbers (Numbering, After)
+
+abbrev pub TheLastNumberCountsTheArrivals : Type 0
+TheLastNumberCountsTheArrivals = After shipped LastGiven
+
+abbrev pub NothingElseMovesTheCount : Type 0
+NothingElseMovesTheCount = CountsOn shipped
+
+abbrev pub EachCarriesItsNumber : Type 0
+EachCarriesItsNumber = After shipped Carries
+
+abbrev pub TheNumbersRise : Type 0
+TheNumbersRise = After shipped Rising
+
+abbrev pub NoTwoAreAlike : Type 0
+NoTwoAreAlike = After shipped Distinct
+
+abbrev pub AReadTakesTheFirst : Type 0
+AReadTakesTheFirst = After shipped (TakesFirst shipped)
+
+abbrev pub TheNumbersAreAnswered : Type 0
+TheNumbersAreAnswered = ToldOfAny numbers
+
+abbrev pub TheNumbersAreTold : Type 0
+TheNumbersAreTold = After shipped (Listed numbers)
+
 -- ---- and in any device (After)
 
 abbrev pub AnyDeviceGoesOnSo : Type 0
-AnyDeviceGoesOnSo = Onward shipped pins hits
+AnyDeviceGoesOnSo = Onward shipped pins hits numbers
 
 -- ---- 01's worked numbers (Worked)
 

@@ -20,6 +20,8 @@ pub record Records : Type 0 where
   pub ledger : Ledger
   -- the last frame that reached the temporary buffer since a reset
   pub latest : Frame
+  -- how many frames got an arrival number since power-up, which is the last one given
+  pub arrivals : ℕ
   pub outbox : Outbox
 
 abbrev pub start : Records
@@ -31,31 +33,35 @@ start = record {
   flags = [];
   ledger = emptyLedger;
   latest = blank;
+  arrivals = 0;
   outbox = emptied;
 }
 
 -- ---- the same records, but for one
 
 abbrev pub with-settings : Records → Settings → Records
-with-settings r v = record { settings = v; counters = r .counters; ticks = r .ticks; kinds = r .kinds; flags = r .flags; ledger = r .ledger; latest = r .latest; outbox = r .outbox }
+with-settings r v = record { settings = v; counters = r .counters; ticks = r .ticks; kinds = r .kinds; flags = r .flags; ledger = r .ledger; latest = r .latest; arrivals = r .arrivals; outbox = r .outbox }
 
 abbrev pub with-counters : Records → Counters → Records
-with-counters r v = record { settings = r .settings; counters = v; ticks = r .ticks; kinds = r .kinds; flags = r .flags; ledger = r .ledger; latest = r .latest; outbox = r .outbox }
+with-counters r v = record { settings = r .settings; counters = v; ticks = r .ticks; kinds = r .kinds; flags = r .flags; ledger = r .ledger; latest = r .latest; arrivals = r .arrivals; outbox = r .outbox }
 
 abbrev pub with-ticks : Records → ℕ → Records
-with-ticks r v = record { settings = r .settings; counters = r .counters; ticks = v; kinds = r .kinds; flags = r .flags; ledger = r .ledger; latest = r .latest; outbox = r .outbox }
+with-ticks r v = record { settings = r .settings; counters = r .counters; ticks = v; kinds = r .kinds; flags = r .flags; ledger = r .ledger; latest = r .latest; arrivals = r .arrivals; outbox = r .outbox }
 
 abbrev pub with-kinds : Records → List ℕ → Records
-with-kinds r v = record { settings = r .settings; counters = r .counters; ticks = r .ticks; kinds = v; flags = r .flags; ledger = r .ledger; latest = r .latest; outbox = r .outbox }
+with-kinds r v = record { settings = r .settings; counters = r .counters; ticks = r .ticks; kinds = v; flags = r .flags; ledger = r .ledger; latest = r .latest; arrivals = r .arrivals; outbox = r .outbox }
 
 abbrev pub with-flags : Records → List ℕ → Records
-with-flags r v = record { settings = r .settings; counters = r .counters; ticks = r .ticks; kinds = r .kinds; flags = v; ledger = r .ledger; latest = r .latest; outbox = r .outbox }
+with-flags r v = record { settings = r .settings; counters = r .counters; ticks = r .ticks; kinds = r .kinds; flags = v; ledger = r .ledger; latest = r .latest; arrivals = r .arrivals; outbox = r .outbox }
 
 abbrev pub with-ledger : Records → Ledger → Records
-with-ledger r v = record { settings = r .settings; counters = r .counters; ticks = r .ticks; kinds = r .kinds; flags = r .flags; ledger = v; latest = r .latest; outbox = r .outbox }
+with-ledger r v = record { settings = r .settings; counters = r .counters; ticks = r .ticks; kinds = r .kinds; flags = r .flags; ledger = v; latest = r .latest; arrivals = r .arrivals; outbox = r .outbox }
 
 abbrev pub with-latest : Records → Frame → Records
-with-latest r v = record { settings = r .settings; counters = r .counters; ticks = r .ticks; kinds = r .kinds; flags = r .flags; ledger = r .ledger; latest = v; outbox = r .outbox }
+with-latest r v = record { settings = r .settings; counters = r .counters; ticks = r .ticks; kinds = r .kinds; flags = r .flags; ledger = r .ledger; latest = v; arrivals = r .arrivals; outbox = r .outbox }
+
+abbrev pub with-arrivals : Records → ℕ → Records
+with-arrivals r v = record { settings = r .settings; counters = r .counters; ticks = r .ticks; kinds = r .kinds; flags = r .flags; ledger = r .ledger; latest = r .latest; arrivals = v; outbox = r .outbox }
 
 abbrev pub with-outbox : Records → Outbox → Records
-with-outbox r v = record { settings = r .settings; counters = r .counters; ticks = r .ticks; kinds = r .kinds; flags = r .flags; ledger = r .ledger; latest = r .latest; outbox = v }
+with-outbox r v = record { settings = r .settings; counters = r .counters; ticks = r .ticks; kinds = r .kinds; flags = r .flags; ledger = r .ledger; latest = r .latest; arrivals = r .arrivals; outbox = v }

@@ -2,21 +2,23 @@
 -- filters).
 use mathlib.Core.Bool.{Bool, true, false, _&&_}
 use mathlib.Core.List.{List}
-use Prim.Native.Nat.{ℕ}
+use Prim.Native.Nat.{ℕ, _+_}
 use lib.Dec.{eqb}
+use lib.ListN.{set}
 use Rattle.base.specs.Bit.{isSet}
 use Rattle.base.specs.Pick.{pick}
 use Rattle.fifo.specs.declared.Fifo.{Fifo}
 use Rattle.fifo.specs.declared.Message.{Message}
-use Rattle.fifo.specs.Queue.{full, putOver, latest}
+use Rattle.fifo.specs.Queue.{full, placeOver, putOver, latest}
 use Rattle.filter.specs.Hits.{filhit}
 use Rattle.filter.specs.Hits as filter
 use Rattle.frame.specs.declared.Header.{Header}
 use Rattle.frame.specs.Received.{received, headerIn, dataIn}
 use Rattle.frame.specs.Tables.{compared}
 use Rattle.chip.specs.declared.Device.{Device}
-use Rattle.chip.specs.Parts.{with-regs, with-hits, with-rx, with-temp}
-use Rattle.chip.specs.State.{loopback, filton, bank}
+use Rattle.chip.specs.declared.Serials.{Serials}
+use Rattle.chip.specs.Parts.{with-regs, with-hits, with-serials, with-rx, with-temp}
+use Rattle.chip.specs.State.{loopback, filton, bank, lastOfAll}
 use Rattle.receive.specs.declared.Arrival.{Arrival}
 use Rattle.receive.specs.declared.Brought.{Brought}
 use Rattle.receive.specs.declared.Arrival.the-variants.{Queued, QueuedOver, A1, A2, A3, A4}
@@ -49,6 +51,15 @@ isQueued A2 = false
 isQueued A3 = false
 isQueued A4 = false
 
+-- "A1 to A3 leave the temporary buffer alone. A4 … and Queued put the frame there."
+unfoldable pub reachesTemporary : Arrival → Bool
+reachesTemporary Queued = true
+reachesTemporary (QueuedOver id extended) = true
+reachesTemporary A1 = false
+reachesTemporary A2 = false
+reachesTemporary A3 = false
+reachesTemporary A4 = true
+
 -- RXFIFO rises when a message "is passed from the temporary receive buffer to the receive FIFO".
 unfoldable pub queuedFlag : Bool → ℕ
 queuedFlag queued = pick queued rxfifo 0
@@ -60,6 +71,17 @@ filterFlag set = pick (isSet 0 set) f0mess (pick (isSet 1 set) f1mess 0)
 
 unfoldable pub queueAfter : Fifo → Message → Bool → Fifo
 queueAfter q m queued = pick queued (putOver q m) q
+
+-- the next arrival number; behind the last there is none, and 12 keeps every frame from it
+unfoldable pub nextSerial : ℕ → ℕ
+nextSerial last = pick (eqb last lastOfAll) last (last + 1)
+
+-- 02, g): a frame "gets an arrival number", and "The stored message carries it": in the temporary buffer and, if it is
+-- queued, at its place in the FIFO
+unfoldable pub serialsAfter : Serials → Fifo → Bool → Serials
+serialsAfter s q queued =
+    let serial = nextSerial (s .last) in
+    record { last = serial; temp = serial; places = pick queued (set (s .places) (placeOver q) serial) (s .places) }
 
 -- the own message that runs, as a frame
 abbrev pub ownHeader : Device → Header
@@ -83,16 +105,18 @@ abbrev pub message : Device → Header → List ℕ → ℕ → Message
 message d h bytes set = record { bytes = received h bytes (d .time) (filhit set) }
 
 -- "A4 … and Queued put the frame" into the temporary buffer; RXTMP says so. If it is queued it goes into the FIFO too,
--- last or in the latest one's place.
+-- last or in the latest one's place. It gets the next number.
 unfoldable pub arrived : Device → Brought → ℕ → Arrival → Device
 arrived d b set what =
     let m = message d (b .header) (b .payload) set in
     raised
     (raised
     (raised
+    (with-serials
     (with-rx
     (with-temp (with-regs d (with-hits (d .regs) set)) m)
     (queueAfter (d .rx) m (isQueued what)))
+    (serialsAfter (d .serials) (d .rx) (isQueued what)))
     rxtmp)
     (queuedFlag (isQueued what)))
     (filterFlag set)

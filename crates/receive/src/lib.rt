@@ -1,8 +1,10 @@
 // A frame that the mode takes: the filters, the room, and what an arrival changes.
 ghost use mathlib.Core.Path.{_≡_};
-ghost use Rattle.receive.specs.Receive.{matching, hits, overLatest, filtersAndRoom, isQueued, queuedFlag, filterFlag, queueAfter, ownFrame, arrived};
+ghost use Rattle.receive.specs.Receive.{matching, hits, overLatest, filtersAndRoom, isQueued, reachesTemporary, queuedFlag};
+ghost use Rattle.receive.specs.Receive.{filterFlag, queueAfter, nextSerial, serialsAfter, ownFrame, arrived};
 use chip::Device;
 use chip::LOOPBACK;
+use chip::Serials;
 use fifo::Fifo;
 use fifo::Message;
 use frame::Header;
@@ -99,6 +101,20 @@ fn is_queued(a: Arrival) -> bool
     }
 }
 
+// Whether a good frame reaches the temporary buffer, and so gets an arrival number.
+pub fn reaches_temporary(what: Arrival) -> bool
+    ensures { λ r. ⌜ r ≡ reachesTemporary what ⌝ }
+{
+    match what {
+        Arrival::Queued => true,
+        Arrival::QueuedOver(_, _) => true,
+        Arrival::A1 => false,
+        Arrival::A2 => false,
+        Arrival::A3 => false,
+        Arrival::A4 => true,
+    }
+}
+
 fn queued_flag(queued: bool) -> u8
     ensures { λ r. ⌜ r ≡ queuedFlag queued ⌝ }
 {
@@ -122,6 +138,31 @@ fn queue_after(q: Fifo, m: Message, queued: bool) -> Fifo
     ensures { λ r. ⌜ r ≡ queueAfter q m queued ⌝ }
 {
     if queued { fifo::put_over(q, m) } else { q }
+}
+
+// The next number; the last stays the last.
+fn next_serial(last: u64) -> u64
+    ensures { λ r. ⌜ r ≡ nextSerial last ⌝ }
+{
+    if last == u64::MAX { last } else { last + 1 }
+}
+
+// The arrival numbers with one more: the frame's own, in the temporary buffer and, if it is queued, at its place in the
+// FIFO.
+fn serials_after(s: Serials, q: Fifo, queued: bool) -> Serials
+    ensures { λ r. ⌜ r ≡ serialsAfter s q queued ⌝ }
+{
+    let serial = next_serial(s.last);
+    let mut places = s.places;
+    if queued {
+        let place = fifo::place_over(q);
+        places[place] = serial;
+    }
+    Serials {
+        last: serial,
+        temp: serial,
+        places,
+    }
 }
 
 // The message in the transmit buffer, which comes back in loopback alone.
@@ -151,10 +192,12 @@ pub fn arrived(d: Device, b: Brought, hits: u8, what: Arrival) -> Device
     let m = Message { bytes };
     let waiting = d.rx;
     let rx = queue_after(waiting, m, queued);
+    let serials = serials_after(d.serials, waiting, queued);
     let mut e = d;
     e.regs.hits = hits;
     e.temp = m;
     e.rx = rx;
+    e.serials = serials;
     let f = flags::raised(e, flags::RXTMP);
     let g = flags::raised(f, queued_flag(queued));
     flags::raised(g, filter_flag(hits))

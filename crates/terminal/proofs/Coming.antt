@@ -1,8 +1,8 @@
 -- A scan that comes, INT, and the terminal when it is switched on. Assumes nothing.
-use mathlib.Core.Path.{_≡_, refl, _∙_, ap}
+use mathlib.Core.Path.{_≡_, refl, sym, _∙_, ap}
 use mathlib.Core.Bool.{Bool, true, false, not}
 use mathlib.Core.List.{List, [], _∷_}
-use Prim.Native.Nat.{ℕ, _+_, _<_}
+use Prim.Native.Nat.{ℕ, _+_, _-_, _^_, _<_}
 use native.Mathlib.Omega.{arith}
 use borrow.Author.Tests.{ne-eqb, lt-leb}
 use lib.Bits.{bitOr}
@@ -21,7 +21,7 @@ use Rattle.promise.specs.Commands.{isCommand, lengthsOf, setsUp, transferFits}
 use Rattle.promise.specs.Flags.{mchg}
 use Rattle.promise.specs.Frames.{Frame}
 use Rattle.promise.specs.Ledger.{kept}
-use Rattle.promise.specs.Numbers.{findsNone, cannotBe, numberDue}
+use Rattle.promise.specs.Numbers.{noneBehind, findsNone, cannotBe, getsNumber, numberDue}
 use Rattle.promise.specs.Arrivals.{arriving, valuesDue}
 use Rattle.promise.specs.Noted.{frameMet, commanded, happened}
 use Rattle.promise.specs.Records.{Records, start, with-settings, with-flags}
@@ -47,7 +47,7 @@ module _ {d : Device} (h : Reached d) (listens : Listens d) where
 
   -- ---- a scan comes
 
-  module _ (few : d .rx .count < 8) (scan : List ℕ) where
+  module _ (few : d .rx .count < 8) (left : d .serials .last < 2 ^ 64 - 1) (scan : List ℕ) where
     abbrev pub comes : Input
     comes = wire (GoodFrame scanner true 8) scan
 
@@ -57,9 +57,13 @@ module _ {d : Device} (h : Reached d) (listens : Listens d) where
     told : valuesDue r (GoodFrame scanner true 8) scan ≡ 0 ∷ []
     told = rw (acts h listens, on-now h listens, unfiltered-now h listens, left-now h listens, lt-leb 8 (d .rx .count) few)
 
+    -- there is an arrival number left for it
+    number-left : noneBehind (r .arrivals) ≡ false
+    number-left = ne-eqb (r .arrivals) (2 ^ 64 - 1) (λ last. omega (arith, last, left, has h .last))
+
     done-now : number (step d comes .given) ≡ 0
-    unfolding numberDue cannotBe
-    done-now = given-due h comes .0
+    unfolding numberDue cannotBe getsNumber
+    done-now = given-due h comes .0 ∙ rw (acts h listens, on-now h listens, number-left)
 
     pub scan-book : book (further h comes) ≡ frameMet r f 0
     unfolding happened
@@ -73,6 +77,9 @@ module _ {d : Device} (h : Reached d) (listens : Listens d) where
 
     pub scan-count : brought d scan .rx .count ≡ d .rx .count + 1
     scan-count = omega (arith, scan-has .waits, has h .waits, ap length (kept-more (r .ledger .accepted) f), length-append (kept (r .ledger)) (f ∷ []))
+
+    pub scan-last : brought d scan .serials .last ≡ d .serials .last + 1
+    scan-last = scan-has .last ∙ ap (λ k. k + 1) (sym (has h .last))
 
     scan-flags : Wakes d → brought d scan .regs .intf ≡ 0xC0
     unfolding filhitOf
@@ -122,6 +129,9 @@ on-has = rw (← on-book) (has on)
 
 pub on-count : switchedOn .rx .count ≡ 0
 on-count = omega (arith, on-has .waits)
+
+pub on-last : switchedOn .serials .last ≡ 0
+on-last = on-has .last
 
 pub on-listens : Listens switchedOn
 on-listens = record {

@@ -27,7 +27,7 @@ use Rattle.promise.specs.Registers.{fields, from, statf, shown}
 use Rattle.promise.specs.Settings.{Settings, settingsOf, filton}
 use Rattle.promise.proofs.Ledgers.{counted-once}
 use Rattle.promise.proofs.Steps.{run-more}
-use Rattle.promise.proofs.After.{settled, counted, raised, due, recorded-more, taken-and-left}
+use Rattle.promise.proofs.After.{settled, counted, raised, due, last-counts, recorded-more, taken-and-left}
 use Rattle.terminal.specs.Terminal.{asked, reply, statusOf, Listens, Reached}
 
 -- the lent buffer, of what a transfer gave
@@ -52,6 +52,7 @@ pub record Has (d : Device) (r : Records) : Type 0 where
   pub counters : d .counters ≡ r .counters
   pub flags : d .regs .intf ≡ together (r .flags)
   pub waits : length (r .ledger .taken) + d .rx .count ≡ length (kept (r .ledger))
+  pub last : d .serials .last ≡ r .arrivals
 
 pub has : {d : Device} (h : Reached d) → Has d (book h)
 has h = record {
@@ -59,6 +60,7 @@ has h = record {
   counters = ap (λ (d : Device). d .counters) (h .is) ∙ counted (h .history);
   flags = ap (λ (d : Device). d .regs .intf) (h .is) ∙ raised (h .history);
   waits = rw (h .is) (taken-and-left (h .history));
+  last = ap (λ (d : Device). d .serials .last) (h .is) ∙ last-counts (h .history);
 }
 
 module _ {d : Device} (h : Reached d) where
@@ -147,6 +149,9 @@ module _ {d : Device} (h : Reached d) (listens : Listens d) where
   pub flags-quiet : asked d 0xDE 1 .regs .intf ≡ 0
   flags-quiet = flags-has .flags
 
+  pub flags-last : asked d 0xDE 1 .serials .last ≡ d .serials .last
+  flags-last = flags-has .last ∙ sym (has h .last)
+
   pub flags-count : asked d 0xDE 1 .rx .count ≡ d .rx .count
   flags-count = omega (arith, flags-has .waits, has h .waits)
 
@@ -171,6 +176,9 @@ module _ {d : Device} (h : Reached d) (listens : Listens d) where
 
   pub status-quiet : asked d 0xE2 1 .regs .intf ≡ d .regs .intf
   status-quiet = status-has .flags ∙ sym (has h .flags)
+
+  pub status-last : asked d 0xE2 1 .serials .last ≡ d .serials .last
+  status-last = status-has .last ∙ sym (has h .last)
 
   pub status-count : asked d 0xE2 1 .rx .count ≡ d .rx .count
   status-count = omega (arith, status-has .waits, has h .waits)
@@ -202,6 +210,9 @@ module _ {d : Device} (h : Reached d) (listens : Listens d) where
 
     pub message-quiet : asked d 0x48 14 .regs .intf ≡ d .regs .intf
     message-quiet = message-has .flags ∙ sym (has h .flags)
+
+    pub message-last : asked d 0x48 14 .serials .last ≡ d .serials .last
+    message-last = message-has .last ∙ sym (has h .last)
 
     pub message-count : asked d 0x48 14 .rx .count + 1 ≡ d .rx .count
     message-count = omega (arith, message-has .waits, has h .waits, length-append (r .ledger .taken) (oldest (r .ledger) ∷ []))

@@ -3,7 +3,7 @@
 use mathlib.Core.Path.{_≡_, refl, sym, _∙_, ap}
 use mathlib.Core.Bool.{false}
 use mathlib.Core.List.{List, [], _∷_, _++_, map, append-assoc, append-nil, map-append}
-use Prim.Native.Nat.{ℕ, suc, pred, _+_, _<_}
+use Prim.Native.Nat.{ℕ, suc, pred, _+_, _-_, _^_, _<_}
 use native.Mathlib.Omega.{arith}
 use borrow.Author.Tests.{le-leb}
 use lib.Dec.{eqb}
@@ -74,16 +74,16 @@ module _ {d : Device} {arrived printed : List ℕ} (s : Serves d arrived printed
         (frames-more (l .taken) (oldest l) ∙ rw (s .taken, message-reply h listens some))
 
     -- a scan
-    module _ (few : d .rx .count < 8) (scan : List ℕ) (eight : length scan ≡ 8) where
-      arrives : Shows (f h listens few scan) (message (f h listens few scan) .bytes)
+    module _ (few : d .rx .count < 8) (left : d .serials .last < 2 ^ 64 - 1) (scan : List ℕ) (eight : length scan ≡ 8) where
+      arrives : Shows (f h listens few left scan) (message (f h listens few left scan) .bytes)
       arrives =
-          last-of (λ f. Shows f (message f .bytes)) (l .accepted) (record { frame = f h listens few scan; over = false })
-          (rw (scan-book h listens few scan) at (as-arrived (further h (comes h listens few scan) .history) .1))
+          last-of (λ f. Shows f (message f .bytes)) (l .accepted) (record { frame = f h listens few left scan; over = false })
+          (rw (scan-book h listens few left scan) at (as-arrived (further h (comes h listens few left scan) .history) .1))
 
       pub bring-serves : Serves (brought d scan) (arrived ++ scan) printed
       bring-serves =
-          entering (comes h listens few scan) _ (arrived ++ scan) printed (scan-book h listens few scan)
-          (ap (λ (fs : List Frame). scans (map message fs)) (kept-more (l .accepted) (f h listens few scan)) ∙ frames-more (kept l) (f h listens few scan) ∙ rw (s .stand, scan-shown (f h listens few scan) refl eight arrives))
+          entering (comes h listens few left scan) _ (arrived ++ scan) printed (scan-book h listens few left scan)
+          (ap (λ (fs : List Frame). scans (map message fs)) (kept-more (l .accepted) (f h listens few left scan)) ∙ frames-more (kept l) (f h listens few left scan) ∙ rw (s .stand, scan-shown (f h listens few left scan) refl eight arrives))
           (s .taken)
 
   -- nothing waits, so everything that arrived is printed

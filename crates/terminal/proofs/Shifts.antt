@@ -2,7 +2,7 @@
 use mathlib.Core.Path.{_≡_, refl, sym, _∙_, ap}
 use mathlib.Core.Bool.{false}
 use mathlib.Core.List.{List, _++_, map}
-use Prim.Native.Nat.{ℕ, _+_, _-_, _*_, _<_, _≤_}
+use Prim.Native.Nat.{ℕ, _+_, _-_, _*_, _^_, _<_, _≤_}
 use native.Mathlib.Omega.{arith}
 use borrow.Author.Tests.{eqb-true, not-false}
 use lib.ListN.{length, take, drop, length-drop}
@@ -14,7 +14,7 @@ use Rattle.promise.specs.Ledger.{kept}
 use Rattle.promise.specs.Records.{Records}
 use Rattle.terminal.specs.declared.Turn.{Turn}
 use Rattle.terminal.specs.Terminal.{switchedOn, brought, scans as scansIn, Reached, Listens, Serves, Wakes, Served}
-use Rattle.terminal.proofs.Coming.{scan-listens, scan-count, scan-wakes, int-is, on, on-book, on-count, on-listens, on-wakes}
+use Rattle.terminal.proofs.Coming.{scan-listens, scan-count, scan-last, scan-wakes, int-is, on, on-book, on-count, on-last, on-listens, on-wakes}
 use Rattle.terminal.proofs.Serving.{bring-serves, all-printed}
 
 -- INT is low, so nothing waits
@@ -29,6 +29,7 @@ asleep d reached listens wakes low page at =
       listens = listens;
       none = none;
       quiet = wakes ∙ rw none;
+      last = refl;
     }
 
 -- i scans have come, of which no more than `most` wait, and the others are on the page
@@ -42,9 +43,12 @@ pub record Shifting (scans page₀ : List ℕ) (n most : ℕ) (page : List ℕ) 
   pub within : i ≤ n
   pub enough : n * 8 ≤ length scans
   pub fits : length scans ≤ length page₀
+  -- each scan that came got a number, and there is one left for each that comes
+  pub numbered : d .serials .last ≡ i
+  pub few-enough : length scans < 2 ^ 64
 
-pub begun : (scans page : List ℕ) (n : ℕ) → n * 8 ≤ length scans → length scans ≤ length page → Shifting scans page n 0 page switchedOn 0 0
-begun scans page n enough fits = record {
+pub begun : (scans page : List ℕ) (n : ℕ) → n * 8 ≤ length scans → length scans ≤ length page → length scans < 2 ^ 64 → Shifting scans page n 0 page switchedOn 0 0
+begun scans page n enough fits few-enough = record {
   serves = record {
     reached = on;
     stand = ap (λ (r : Records). scansIn (map message (kept (r .ledger)))) on-book;
@@ -58,6 +62,8 @@ begun scans page n enough fits = record {
   within = omega arith;
   enough = enough;
   fits = fits;
+  numbered = on-last;
+  few-enough = few-enough;
 }
 
 module _ (scans page₀ : List ℕ) (n most : ℕ) (page : List ℕ) (d : Device) (used i : ℕ) (h : Shifting scans page₀ n most page d used i) where
@@ -78,17 +84,20 @@ module _ (scans page₀ : List ℕ) (n most : ℕ) (page : List ℕ) (d : Device
     scanned room =
         let reached = h .serves .reached in
         let few : d .rx .count < 8 = omega (arith, h .few) in
-        let one-more = scan-count reached (h .listens) few scan in
+        let left : d .serials .last < 2 ^ 64 - 1 = omega (arith, h .numbered, h .enough, h .few-enough) in
+        let one-more = scan-count reached (h .listens) few left scan in
         record {
-          serves = rw (← come) (bring-serves (h .serves) (h .listens) few scan scan-eight);
-          listens = scan-listens reached (h .listens) few scan;
-          wakes = scan-wakes reached (h .listens) few scan (h .wakes);
+          serves = rw (← come) (bring-serves (h .serves) (h .listens) few left scan scan-eight);
+          listens = scan-listens reached (h .listens) few left scan;
+          wakes = scan-wakes reached (h .listens) few left scan (h .wakes);
           few = omega (arith, one-more, h .few);
           printed = omega (arith, one-more, h .printed);
           size = h .size;
           within = omega arith;
           enough = h .enough;
           fits = h .fits;
+          numbered = scan-last reached (h .listens) few left scan ∙ ap (λ k. k + 1) (h .numbered);
+          few-enough = h .few-enough;
         }
 
   -- the page has room for all that waits
@@ -110,6 +119,8 @@ module _ (scans page₀ : List ℕ) (n most : ℕ) (page : List ℕ) (d : Device
       within = h .within;
       enough = h .enough;
       fits = h .fits;
+      numbered = served .last ∙ h .numbered;
+      few-enough = h .few-enough;
     }
 
     -- everything that came is on the page

@@ -12,9 +12,9 @@ use lib.Seq.{take-at, length-take-le}
 use Rattle.chip.specs.declared.Device.{Device}
 use Rattle.terminal.specs.declared.Status.{Status}
 use Rattle.terminal.specs.Terminal.{asked, statusOf, scanRead, Reached, Listens, Serves, Served}
-use Rattle.terminal.proofs.Doing.{further, askFlags, flags-listen, flags-quiet, flags-count}
-use Rattle.terminal.proofs.Doing.{askStatus, status-listens, status-quiet, status-count, status-told}
-use Rattle.terminal.proofs.Doing.{askMessage, message-listens, message-quiet, message-count}
+use Rattle.terminal.proofs.Doing.{further, askFlags, flags-listen, flags-quiet, flags-last, flags-count}
+use Rattle.terminal.proofs.Doing.{askStatus, status-listens, status-quiet, status-last, status-count, status-told}
+use Rattle.terminal.proofs.Doing.{askMessage, message-listens, message-quiet, message-last, message-count}
 use Rattle.terminal.proofs.Serving.{flags-serve, status-serve, read-serves}
 
 -- from the status that was read first, with so much of the page used, to now
@@ -23,6 +23,7 @@ pub record Serving (page₀ : List ℕ) (used₀ : ℕ) (s₀ : Status) (page : 
   pub listens : Listens (s .device)
   pub told : s .waits ≡ not (eqb (s .device .rx .count) 0)
   pub quiet : s .device .regs .intf ≡ 0
+  pub last : s .device .serials .last ≡ s₀ .device .serials .last
   pub room : used + 8 * s .device .rx .count ≡ used₀ + 8 * s₀ .device .rx .count
   pub fits : used₀ + 8 * s₀ .device .rx .count ≤ length page₀
   pub size : length page ≡ length page₀
@@ -49,6 +50,7 @@ module _ (d : Device) (reached : Reached d) (listens : Listens d) (page : List �
     listens = status-listens quietly quiet-listens;
     told = status-told quietly quiet-listens ∙ rw (status-count quietly quiet-listens);
     quiet = status-quiet quietly quiet-listens ∙ flags-quiet reached listens;
+    last = refl;
     room = refl;
     fits = rw same-count fits;
     size = refl;
@@ -68,6 +70,7 @@ module _ (d : Device) (reached : Reached d) (listens : Listens d) (page : List �
         listens = h .listens;
         none = none;
         quiet = h .quiet;
+        last = h .last ∙ status-last quietly quiet-listens ∙ flags-last reached listens;
       }
 
 -- ---- a message more
@@ -113,6 +116,7 @@ module _ (page₀ : List ℕ) (used₀ : ℕ) (s₀ : Status) (page : List ℕ) 
     listens = status-listens reading reading-listens;
     told = status-told reading reading-listens ∙ rw (status-count reading reading-listens);
     quiet = status-quiet reading reading-listens ∙ message-quiet (h .reached) (h .listens) some ∙ h .quiet;
+    last = status-last reading reading-listens ∙ message-last (h .reached) (h .listens) some ∙ h .last;
     room = omega (arith, one-less, h .room);
     fits = h .fits;
     size = same-len-mid used (used + 8 - used) page line (eight ∙ sym (part-eight)) ∙ h .size;

@@ -95,3 +95,5 @@ pub record Served (d : Device) (at : ℕ) (page : List ℕ) (t : Turn) (after : 
   pub listens : Listens (t .device)
   pub none : t .device .rx .count ≡ 0
   pub quiet : t .device .regs .intf ≡ 0
+  -- a read gives no arrival number
+  pub last : t .device .serials .last ≡ d .serials .last

@@ -1,5 +1,6 @@
 // The worked numbers of document 01 that are run, its five errors of a hurried builder as scenarios, and the inputs
 // that no script of `face` can bring: a line for each, held against the crate's file `stdout`.
+mod last_numbers;
 mod ranges;
 mod say;
 
@@ -56,15 +57,23 @@ fn happens(d: Device, e: Event) -> Device {
     o.device
 }
 
-// A standard data frame that another node acknowledged.
-fn frame_with(d: Device, id: u32, code: u8, given: usize, payload: [u8; 8]) -> Device {
-    let header = Header {
+// A standard data frame.
+fn standard(id: u32, code: u8) -> Header {
+    Header {
         id,
         extended: false,
         remote: false,
         code,
-    };
-    let o = bus::event(d, Event::GoodFrame(header, true, given), payload);
+    }
+}
+
+// One that another node acknowledged.
+fn frame_with(d: Device, id: u32, code: u8, given: usize, payload: [u8; 8]) -> Device {
+    let o = bus::event(
+        d,
+        Event::GoodFrame(standard(id, code), true, given),
+        payload,
+    );
     let a = o.answer;
     say_answer(a);
     o.device
@@ -218,5 +227,6 @@ fn main() {
     stranger_at_a_full_queue();
     payload_behind_the_count();
     unknown_kind();
+    last_numbers::each();
     ranges::each();
 }

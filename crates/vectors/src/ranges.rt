@@ -1,14 +1,15 @@
 // Number 1: of each range that `chip::proper` asks for, a device just outside it and its neighbour at the bound, at
-// both doors and asked why.
+// both doors, asked why and asked for its numbers.
 use crate::say::say;
 use crate::say::say_answer;
 use crate::say::say_number;
+use crate::standard;
 use chip::Device;
 use events::Event;
 use fifo::Fifo;
-use frame::Header;
 
-// What a read of CTRL0, an event of no ticks and the question why a frame would not arrive are given.
+// What a read of CTRL0, an event of no ticks, the question why a frame would not arrive and that of the arrival numbers
+// are given.
 fn asked(d: Device) {
     let mut reply = [0u8; 1];
     let o = host::transfer(d, &[0xD2], &mut reply);
@@ -16,15 +17,11 @@ fn asked(d: Device) {
     let p = bus::event(d, Event::Ticks(0), [0; 8]);
     let a = p.answer;
     say_answer(a);
-    let header = Header {
-        id: 0x123,
-        extended: false,
-        remote: false,
-        code: 0,
-    };
-    let w = why::explained(d, header, true, 0, [0; 8]);
+    let w = why::explained(d, standard(0x123, 0), true, 0, [0; 8]);
     let a = w.answer;
     say_answer(a);
+    let told = bus::numbers(d);
+    say_number(told.number);
 }
 
 fn on_both_sides(range: &[u8], outside: Device, at_the_bound: Device) {

@@ -30,8 +30,16 @@ pub(crate) fn say_byte(b: u8) {
     say(&[b' ', DIGITS[(b / 16) as usize], DIGITS[(b % 16) as usize]]);
 }
 
+// In decimal.
+pub(crate) fn say_large(n: u64) {
+    let mut digits = [0u8; 20];
+    let k = io::decimal(n, &mut digits);
+    say(b" ");
+    say(&digits[..k]);
+}
+
 pub(crate) fn say_number(n: u8) {
-    say(&[b' ', DIGITS[(n % 10) as usize]]);
+    say_large(n as u64);
 }
 
 // The identifier that is lost, in four bytes, and its kind.

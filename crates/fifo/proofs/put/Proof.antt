@@ -19,7 +19,7 @@ returns c = rw (← c .before .full .ensures) (search (picks, c .if1 .taken))
 
 returns-2 : tie.Need-returns-2
 unfolding put
-returns-2 c = rw (← c .before .before .full .ensures) (search (picks, c .before .if1 .left))
+returns-2 c = rw (← c .before .before .full .ensures, c .place .ensures) (search (picks, c .before .if1 .left))
 
 pub put-spec : {M : Type 1} → statement M
-put-spec = tie.close (tie.spec (search needs) (search needs) (search needs) (search needs) (search needs) (search needs) add-p returns returns-2)
+put-spec = tie.close (tie.spec (search needs) (search needs) (search needs) (search needs) (search needs) add-p returns returns-2)

@@ -9,8 +9,8 @@ use Rattle.fifo.proofs.take.Statement.{statement}
 use Rattle.fifo.proofs.take.Tie as tie
 
 -- where one waits, one less is a count
-sub-t9 : tie.Need-sub-t9
-sub-t9 c =
+sub-t7 : tie.Need-sub-t7
+sub-t7 c =
     omega (arith, eqb-false (c .before .before .before .args .q .count) 0 (sym (c .before .before .is-empty .ensures) ∙ c .before .if1 .left))
 
 returns : tie.Need-returns
@@ -19,7 +19,7 @@ returns c = rw (← c .before .is-empty .ensures) (search (picks, c .if1 .taken)
 
 returns-2 : tie.Need-returns-2
 unfolding take
-returns-2 c = rw (← c .before .before .before .is-empty .ensures) (search (picks, c .before .before .if1 .left))
+returns-2 c = rw (← c .before .before .before .is-empty .ensures, c .before .place .ensures) (search (picks, c .before .before .if1 .left))
 
 pub take-spec : {M : Type 1} → statement M
-take-spec = tie.close (tie.spec (search needs) (search needs) (search needs) (search needs) sub-t9 returns returns-2)
+take-spec = tie.close (tie.spec (search needs) (search needs) (search needs) sub-t7 returns returns-2)

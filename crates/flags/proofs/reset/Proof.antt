@@ -6,7 +6,7 @@ use Rattle.flags.proofs.reset.Tie as tie
 
 returns : tie.Need-returns
 unfolding reset
-returns c = rw (← c .before .before .before .before .fresh .ensures)
+returns c = rw (← c .before .before .before .before .before .fresh .ensures)
 
 pub reset-spec : {M : Type 1} → statement M
 reset-spec = tie.close (tie.spec (search needs) returns)

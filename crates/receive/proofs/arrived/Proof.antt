@@ -13,14 +13,15 @@ returns c =
       c .before .before .raised2 .ensures,
       c .before .before .before .queued-flag .ensures,
       c .before .before .before .before .raised .ensures,
-      c .before .before .before .before .before .before .queue-after .ensures,
-      c .before .before .before .before .before .before .before .before .received .ensures,
-      c .before .before .before .before .before .before .before .before .before .filhit .ensures,
-      c .before .before .before .before .before .before .before .before .before .before .before .is-queued .ensures,
+      c .before .before .before .before .before .before .serials-after .ensures,
+      c .before .before .before .before .before .before .before .queue-after .ensures,
+      c .before .before .before .before .before .before .before .before .before .received .ensures,
+      c .before .before .before .before .before .before .before .before .before .before .filhit .ensures,
+      c .before .before .before .before .before .before .before .before .before .before .before .before .is-queued .ensures,
     )
 
 pub arrived-spec : {M : Type 1} → statement M
 arrived-spec =
     tie.close
     (tie.spec (search needs) (search needs) (search needs) (search needs) (search needs) (search needs) (search needs) (search needs)
-    (search needs) returns)
+    (search needs) (search needs) returns)

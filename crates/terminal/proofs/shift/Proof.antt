@@ -18,7 +18,7 @@ switched-on-requires : tie.Need-switched-on-requires Inv-loop μ-loop
 switched-on-requires c κs = tt
 
 loop-holds : tie.Need-loop-holds Inv-loop μ-loop
-loop-holds c = rw (c .switched-on .ensures) (begun _ _ _ (omega arith) (c .before .before .before .pre))
+loop-holds c = rw (c .switched-on .ensures) (begun _ _ _ (omega arith) (c .before .before .before .pre) (omega arith))
 
 bring-requires : tie.Need-bring-requires Inv-loop μ-loop
 bring-requires c κs = scan-eight _ _ _ _ _ _ _ _ (c .before .before .loop .inv) (c .before .loop-test .taken)

@@ -68,16 +68,25 @@ word-9 c = word-8 (c .before .before .before)
 past-9 : (c : tie.Else9) {x : Alone} → x ≡ amongWords (word-9 c) (drop 9 alones) Unknown → x ≡ aloneOf (word-9 c)
 past-9 c p = past-8 (c .before .before .before) (pick-no _ _ _ _ _ (sym (c .before .is9 .ensures) ∙ c .if9 .left) p)
 
+abbrev word-10 : tie.Else10 → List ℕ
+word-10 c = word-9 (c .before .before .before)
+
+past-10 : (c : tie.Else10) {x : Alone} → x ≡ amongWords (word-10 c) (drop 10 alones) Unknown → x ≡ aloneOf (word-10 c)
+past-10 c p = past-9 (c .before .before .before) (pick-no _ _ _ _ _ (sym (c .before .is10 .ensures) ∙ c .if10 .left) p)
+
 returns : tie.Need-returns
 unfolding aloneOf
 returns c = pick-yes _ _ _ _ _ (sym (c .before .is .ensures) ∙ c .if1 .taken) refl
+
+returns-10 : tie.Need-returns-10
+returns-10 c = past-9 (c .before .before .before) (pick-yes _ _ _ _ _ (sym (c .before .is10 .ensures) ∙ c .if10 .taken) refl)
 
 pub alone-of-spec : {M : Type 1} → statement M
 alone-of-spec =
     tie.close
     (tie.spec (search needs) (search needs) (search needs) (search needs) (search needs) (search needs) (search needs) (search needs)
     (search needs) (search needs) (search needs) (search needs) (search needs) (search needs) (search needs) (search needs) (search needs)
-    (search needs) returns
+    (search needs) (search needs) (search needs) returns
     (λ c. past-1 (c .before .before .before) (pick-yes _ _ _ _ _ (sym (c .before .is2 .ensures) ∙ c .if2 .taken) refl))
     (λ c. past-2 (c .before .before .before) (pick-yes _ _ _ _ _ (sym (c .before .is3 .ensures) ∙ c .if3 .taken) refl))
     (λ c. past-3 (c .before .before .before) (pick-yes _ _ _ _ _ (sym (c .before .is4 .ensures) ∙ c .if4 .taken) refl))
@@ -86,4 +95,5 @@ alone-of-spec =
     (λ c. past-6 (c .before .before .before) (pick-yes _ _ _ _ _ (sym (c .before .is7 .ensures) ∙ c .if7 .taken) refl))
     (λ c. past-7 (c .before .before .before) (pick-yes _ _ _ _ _ (sym (c .before .is8 .ensures) ∙ c .if8 .taken) refl))
     (λ c. past-8 (c .before .before .before) (pick-yes _ _ _ _ _ (sym (c .before .is9 .ensures) ∙ c .if9 .taken) refl))
-    (λ c. past-9 c refl))
+    returns-10
+    (λ c. past-10 c refl))

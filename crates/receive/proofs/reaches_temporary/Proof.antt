@@ -1,13 +1,17 @@
--- `changed::reaches_temporary` meets its contract. Assumes nothing.
-use Rattle.changed.specs.Changed.{reachesTemporary}
+-- `receive::reaches_temporary` meets its contract. Assumes nothing.
+use Rattle.receive.specs.Receive.{reachesTemporary}
 use Rattle.base.specs.Pick.{picks, judges}
 use borrow.Author.Needs.{needs}
-use Rattle.changed.proofs.reaches_temporary.Statement.{statement}
-use Rattle.changed.proofs.reaches_temporary.Tie as tie
+use Rattle.receive.proofs.reaches_temporary.Statement.{statement}
+use Rattle.receive.proofs.reaches_temporary.Tie as tie
 
 returns-2 : tie.Need-returns-2
 unfolding reachesTemporary
 returns-2 c = search (picks, judges)
+
+returns-5 : tie.Need-returns-5
+unfolding reachesTemporary
+returns-5 c = search (picks, judges)
 
 returns-6 : tie.Need-returns-6
 unfolding reachesTemporary
@@ -18,4 +22,4 @@ unfolding reachesTemporary
 reaches-temporary-spec =
     tie.close
     (tie.spec (search needs) (search needs) (search needs) (search needs) (search needs) (search needs) (λ c. search (picks, judges)) returns-2
-    (λ c. search (picks, judges)) (λ c. search (picks, judges)) (λ c. search (picks, judges)) returns-6)
+    (λ c. search (picks, judges)) (λ c. search (picks, judges)) returns-5 returns-6)
