@@ -1,5 +1,7 @@
 // The ground that the other crates stand on: definitions and laws in specs/ and proofs/, a flag as a bit, and how
 // lent bytes are read and written.
+#![tactic(auto)]
+
 ghost use Rattle.std.specs.Prelude.{◌≡◌, ◌≤◌, get_or};
 ghost use Rattle.base.specs.Pick.{flag};
 ghost use Rattle.base.specs.Put.{put_of};

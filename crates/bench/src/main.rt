@@ -1,6 +1,8 @@
 // The benchmark's program: a list of records in, run through the device as often as it says, the last results out. A
 // record has 20 bytes and a result 17, and at most 3000 are run, so that 51000 bytes hold the results; what they mean,
 // bench/work.h tells.
+#![tactic(auto)]
+
 ghost use Rattle.std.specs.Prelude.{◌≤◌, ◌*◌, length};
 
 mod records;

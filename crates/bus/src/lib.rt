@@ -1,5 +1,7 @@
 // The bus's door: an event in, an answer out. First the filters are asked and the answer is found, from the state and
 // the event, changing nothing; then the change is made.
+#![tactic(auto)]
+
 ghost use Rattle.std.specs.Prelude.{◌≡◌};
 ghost use Rattle.bus.specs.Event.{answered, answer, event};
 ghost use Rattle.bus.specs.Hits.{hits};

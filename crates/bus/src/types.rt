@@ -3,21 +3,21 @@
 use chip::Device;
 use judged::Answer;
 
-#[derive(Drop)]
+#[derive(Clone, Copy)]
 pub struct Outcome {
     pub device: Device,
     pub answer: Answer,
 }
 
 // The filters that match a frame, a bit for each; none beside a number that isn't 0.
-#[derive(Drop)]
+#[derive(Clone, Copy)]
 pub struct Hits {
     pub number: u8,
     pub set: u8,
 }
 
 // The arrival numbers; zeros beside a number that isn't 0.
-#[derive(Drop)]
+#[derive(Clone, Copy)]
 pub struct Numbers {
     pub number: u8,
     // The last that was given.
@@ -29,7 +29,7 @@ pub struct Numbers {
     pub waiting: [u64; 8],
 }
 
-#[derive(Drop)]
+#[derive(Clone, Copy)]
 pub struct Pins {
     pub int: bool,
     pub stat: bool,

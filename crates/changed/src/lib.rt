@@ -1,4 +1,6 @@
 // What an event that isn't refused changes.
+#![tactic(auto)]
+
 ghost use Rattle.std.specs.Prelude.{◌≡◌, ◌+◌, ◌%◌};
 ghost use Rattle.changed.specs.Changed.{err_bit, counted_frame, heard, taken, counted_receive_error, receive_error_met};
 ghost use Rattle.changed.specs.Changed.{dominant_met, counted_transmit_error, transmit_error_met, recessive_met, ticked, pin_set, arrival, after};

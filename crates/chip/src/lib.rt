@@ -1,4 +1,6 @@
 // The HI-3110's state, by value: what both doors read and change.
+#![tactic(auto)]
+
 ghost use Rattle.std.specs.Prelude.{◌≡◌};
 ghost use Rattle.chip.specs.State.{fresh, mode_of, reset_bit, bor, wakeup, txen, tx1m, osm, filton, enabled, spent, bank};
 ghost use Rattle.chip.specs.Proper.{registers_in_range, sending_in_range, acting_in_range, proper};
@@ -27,12 +29,12 @@ pub const FIRST_IN_FIFO: u8 = 1;
 pub const ALONE: u8 = 2;
 
 // A filter's or a mask's six bytes.
-#[derive(Drop)]
+#[derive(Clone, Copy)]
 pub struct Pattern {
     pub bytes: [u8; 6],
 }
 
-#[derive(Drop)]
+#[derive(Clone, Copy)]
 pub struct Registers {
     pub ctrl0: u8,
     pub ctrl1: u8,
@@ -51,7 +53,7 @@ pub struct Registers {
 }
 
 // The arrival numbers: of the frames that reach the temporary buffer, counted from 1.
-#[derive(Drop)]
+#[derive(Clone, Copy)]
 pub struct Serials {
     // The last that was given. No reset touches it.
     pub last: u64,
@@ -61,7 +63,7 @@ pub struct Serials {
     pub places: [u64; 8],
 }
 
-#[derive(Drop)]
+#[derive(Clone, Copy)]
 pub struct Device {
     pub regs: Registers,
     pub counters: Counters,

@@ -1,12 +1,14 @@
 // The SPI commands of 000's Table 1, but for the three factory ones, in one table: dispatch and the checks of length
 // and reply read it.
+#![tactic(auto)]
+
 ghost use Rattle.std.specs.Prelude.{◌≡◌, ◌<◌, get_or, length};
 ghost use Rattle.commands.specs.Table.{rows, no_row, lookup, place_in};
 
 mod table;
 pub mod verb;
 
-#[derive(Drop)]
+#[derive(Clone, Copy)]
 pub struct Row {
     pub command: u8,
     // The fewest and the most bytes after the command byte.
@@ -19,7 +21,7 @@ pub struct Row {
     pub index: u8,
 }
 
-#[derive(Drop)]
+#[derive(Clone, Copy)]
 pub enum Found {
     At(Row),
     Nothing,

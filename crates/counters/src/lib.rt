@@ -1,12 +1,14 @@
 // The error counters REC and TEC, bus off and the groups of recessive bits that end it: one small record and the
 // rules that move it.
+#![tactic(auto)]
+
 ghost use Rattle.std.specs.Prelude.{◌≡◌, ◌+◌, ◌-◌, ◌≤◌, min};
 ghost use Rattle.counters.specs.Rules.{receive_error, dominant_bit, good_frame, transmit_error, completed};
 ghost use Rattle.counters.specs.Rules.{eleven_recessive, test_rec, test_tec};
 
 pub mod lent;
 
-#[derive(Drop)]
+#[derive(Clone, Copy)]
 pub struct Counters {
     pub rec: u8,
     pub tec: u8,

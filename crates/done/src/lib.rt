@@ -1,4 +1,6 @@
 // What a command does to the device.
+#![tactic(auto)]
+
 ghost use Rattle.std.specs.Prelude.{◌≡◌};
 ghost use Rattle.done.specs.Done.{pattern, registers_after, message_written, filter_written, mask_written, message_taken};
 ghost use Rattle.done.specs.Done.{receive_cleared, entry_taken, time_reset, rec_written, tec_written, register_changed, does};

@@ -1,4 +1,6 @@
 // What the registers and pins show of the device, drawn anew at each look.
+#![tactic(auto)]
+
 ghost use Rattle.std.specs.Prelude.{◌≡◌, ◌<◌};
 ghost use Rattle.base.specs.Bit.{is_set};
 ghost use Rattle.drawn.specs.Drawn.{statf, err, tstat, messtat, share, int, stat, gp};

@@ -1,8 +1,10 @@
 // The events of the bus, each kind with its own particulars. A good frame's payload goes beside it.
+#![tactic(auto)]
+
 use frame::Header;
 
 // What went wrong on the bus, by ERR's bits 0 to 4.
-#[derive(Drop)]
+#[derive(Clone, Copy)]
 pub enum ErrorKind {
     Stuff,
     Ack,
@@ -11,7 +13,7 @@ pub enum ErrorKind {
     Bit,
 }
 
-#[derive(Drop)]
+#[derive(Clone, Copy)]
 pub enum Event {
     // The header, whether another node acknowledged it, and how many of the payload's bytes were given.
     GoodFrame(Header, bool, usize),

@@ -18,7 +18,7 @@ pub(crate) fn long_line() -> Line {
 }
 
 // The device after a line, and the place after its answer.
-#[derive(Drop)]
+#[derive(Clone, Copy)]
 pub struct Turn {
     pub device: Device,
     pub used: usize,

@@ -9,7 +9,7 @@ use frame::Header;
 use why::Why;
 
 // What a transfer did: its number and, where that is 0, the reply.
-#[derive(Drop)]
+#[derive(Clone, Copy)]
 pub struct Transferred {
     pub device: Device,
     pub number: u8,

@@ -10,7 +10,7 @@ use judged::Answer;
 use line::{Asked, Line};
 
 // The request that waits: only the next one tells that it isn't the last.
-#[derive(Drop)]
+#[derive(Clone, Copy)]
 pub struct Last {
     // Nothing before the first.
     pub line: Line,
@@ -18,7 +18,7 @@ pub struct Last {
 }
 
 // After a line: the device, the request that now waits, and the place after what was told.
-#[derive(Drop)]
+#[derive(Clone, Copy)]
 pub struct Next {
     pub device: Device,
     pub last: Last,
@@ -52,7 +52,7 @@ fn number_of(a: Answer) -> u8 {
 }
 
 // What a request does to the device, and the number that refuses it.
-#[derive(Drop)]
+#[derive(Clone, Copy)]
 pub struct Effect {
     pub device: Device,
     pub number: u8,

@@ -2,7 +2,7 @@
 // on they are passed over and never count.
 ghost use Rattle.std.specs.Prelude.{◌<◌, ◌≤◌, length};
 
-#[derive(Drop)]
+#[derive(Clone, Copy)]
 pub struct Held {
     // The largest number for a line that is longer than the buffer.
     pub length: usize,
@@ -16,7 +16,7 @@ pub(crate) fn nothing() -> Held {
     }
 }
 
-#[derive(Drop)]
+#[derive(Clone, Copy)]
 pub struct Step {
     pub held: Held,
     pub next: usize,

@@ -1,6 +1,8 @@
 // A script of transfers and bus events in, one line of answer for each request out, in constant memory. It reads a
 // chunk, answers the lines that end in it, writes the answers and reads on. With an argument, as the command `why` has
 // it, it explains the script's last frame instead.
+#![tactic(auto)]
+
 mod answers;
 mod device;
 mod explain;
@@ -18,7 +20,7 @@ use lines::Held;
 const NEARLY_FULL: usize = 65000;
 
 // The run so far. The line that is being read, and the answers that wait to be written, stand in buffers beside it.
-#[derive(Drop)]
+#[derive(Clone, Copy)]
 struct Run {
     device: Device,
     // Whether the last frame is explained, and not each line answered; and the request that then waits.

@@ -1,14 +1,16 @@
 // A queue of up to eight messages. The receive FIFO, the transmit FIFO and the transmit history are each one.
+#![tactic(auto)]
+
 ghost use Rattle.std.specs.Prelude.{◌≡◌};
 ghost use Rattle.fifo.specs.Queue.{empty, eight_wait, none_waits, full, is_empty, place, put, latest_place, place_over, put_over, take, next, latest, in_range};
 
 // Sixteen bytes, as 000's Table 5 lays out a message; in a message to send, byte 1 is its tag.
-#[derive(Drop)]
+#[derive(Clone, Copy)]
 pub struct Message {
     pub bytes: [u8; 16],
 }
 
-#[derive(Drop)]
+#[derive(Clone, Copy)]
 pub struct Fifo {
     pub items: [Message; 8],
     // The place of the oldest message; the others follow it, the first place after the last.

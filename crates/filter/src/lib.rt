@@ -1,5 +1,7 @@
 // The acceptance filters: eight filters and eight masks of six bytes each, against the six bytes that a frame is
 // compared by. It knows nothing of frames or of the device.
+#![tactic(auto)]
+
 ghost use Rattle.std.specs.Prelude.{◌≡◌};
 ghost use Rattle.filter.specs.Match.{agree, bit_from_top, bit_at_place, counted_of, counted_byte, matches};
 ghost use Rattle.filter.specs.Hits.{hits, filhit, how_many};

@@ -1,4 +1,6 @@
 // What several steps of the device share: the interrupt flags that rise, an error noted, and the master reset.
+#![tactic(auto)]
+
 ghost use Rattle.std.specs.Prelude.{◌≡◌};
 ghost use Rattle.flags.specs.Flags.{raised, bus_error};
 ghost use Rattle.flags.specs.Reset.{reset};

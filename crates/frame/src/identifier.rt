@@ -19,7 +19,7 @@ fn id_bits(h: Header) -> u32
 }
 
 // The parts, each named by its highest bit.
-#[derive(Drop)]
+#[derive(Clone, Copy)]
 pub struct IdParts {
     pub id28: u8,
     pub id20: u8,

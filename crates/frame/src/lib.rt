@@ -1,5 +1,7 @@
 // A CAN frame as the HI-3110 lays it out in bytes: the length rule, the identifier's bytes to send, as read and as
 // compared, and the sixteen bytes of a message.
+#![tactic(auto)]
+
 mod identifier;
 
 ghost use Rattle.std.specs.Prelude.{◌≡◌, get_or};
@@ -10,7 +12,7 @@ ghost use Rattle.frame.specs.Received.{received, header_in, data_in};
 use identifier::id_parts;
 
 // What a frame says before its data.
-#[derive(Drop)]
+#[derive(Clone, Copy)]
 pub struct Header {
     pub id: u32,
     pub extended: bool,
@@ -20,7 +22,7 @@ pub struct Header {
 }
 
 // An identifier's bytes in 0x12: the first two, or all four.
-#[derive(Drop)]
+#[derive(Clone, Copy)]
 pub struct IdBytes {
     pub bytes: [u8; 4],
     pub count: usize,

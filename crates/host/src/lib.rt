@@ -1,12 +1,14 @@
 // The host's door: a transfer's bytes in, a reply out. Three questions: is it refused, what does it show, what does
 // it do.
+#![tactic(auto)]
+
 ghost use Rattle.std.specs.Prelude.{◌≡◌, length};
 ghost use Rattle.host.specs.Transfer.{transfer, reply_after};
 
 use chip::Device;
 use refused::Verdict;
 
-#[derive(Drop)]
+#[derive(Clone, Copy)]
 pub struct Outcome {
     pub device: Device,
     // 0 where the transfer is done, else the first number that applies.

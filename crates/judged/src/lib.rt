@@ -1,4 +1,6 @@
 // Which events can't be, and what the others are answered.
+#![tactic(auto)]
+
 ghost use Rattle.std.specs.Prelude.{◌≡◌};
 ghost use Rattle.judged.specs.Judged.{quiet_mode, no_errors, runs, impossible_frame, impossible};
 ghost use Rattle.judged.specs.Judged.{takes_no_frames, unacknowledged, reason, said, gives_number, no_number_left};
@@ -9,7 +11,7 @@ use events::Event;
 use frame::Header;
 use receive::{Arrival, Brought};
 
-#[derive(Drop)]
+#[derive(Clone, Copy)]
 pub enum Answer {
     // 1, 8 or 12.
     Refused(u8),

@@ -1,4 +1,6 @@
 // What the registers show of the error counters: the levels they have reached, and the counts in bus off.
+#![tactic(auto)]
+
 ghost use Rattle.std.specs.Prelude.{◌≡◌, min};
 ghost use Rattle.levels.specs.Levels.{warns, rxerrp, txerrp, errw, errp, level_bits, tec_shown, groups_shown};
 

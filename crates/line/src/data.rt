@@ -6,7 +6,7 @@ ghost use Rattle.line.specs.Data.{gather_of, keep_of, no_data, head};
 use crate::numbers::{byte, is_byte};
 use crate::words::word;
 
-#[derive(Drop)]
+#[derive(Clone, Copy)]
 pub struct Data {
     // Every word is a byte.
     pub good: bool,

@@ -9,7 +9,7 @@ use crate::{Asked, Expected, Line};
 use events::{ErrorKind, Event};
 
 // An error's kind, where a word names one.
-#[derive(Drop)]
+#[derive(Clone, Copy)]
 pub enum Kind {
     Is(ErrorKind),
     Other,

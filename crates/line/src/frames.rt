@@ -14,7 +14,7 @@ use events::Event;
 use frame::Header;
 
 // What a frame's words are for.
-#[derive(Drop)]
+#[derive(Clone, Copy)]
 pub enum For {
     // The frame arrives.
     Arrival,

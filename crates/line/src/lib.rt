@@ -1,5 +1,7 @@
 // A line of `face`'s script as a request: the words, the numbers and the requests of the protocol, for every line of
 // bytes of any length.
+#![tactic(auto)]
+
 mod answers;
 mod data;
 mod errors;
@@ -16,7 +18,7 @@ use events::Event;
 use frame::Header;
 
 // What was expected at the place where a line can't be read.
-#[derive(Drop)]
+#[derive(Clone, Copy)]
 pub enum Expected {
     Request,
     Byte,
@@ -35,7 +37,7 @@ pub enum Expected {
     Shorter,
 }
 
-#[derive(Drop)]
+#[derive(Clone, Copy)]
 pub enum Asked {
     // A blank line, or a comment.
     Nothing,
@@ -50,7 +52,7 @@ pub enum Asked {
     Unreadable(Expected),
 }
 
-#[derive(Drop)]
+#[derive(Clone, Copy)]
 pub struct Line {
     pub asked: Asked,
     // The bytes of the transfer or of the frame's data, then zeros. A frame's payload is the first eight. A line that

@@ -13,7 +13,7 @@ use crate::{Asked, Expected, Line};
 use events::Event;
 
 // What a request of one word asks for.
-#[derive(Drop)]
+#[derive(Clone, Copy)]
 pub enum Alone {
     Asks(Asked),
     Unknown,

@@ -3,14 +3,14 @@ ghost use Rattle.std.specs.Prelude.{◌≡◌, ◌+◌, ◌≤◌, length, drop}
 ghost use Rattle.line.specs.Words.{before_comment, is_blank, same, choice_of, blanks, letters, Found};
 
 // The places where a word begins and ends. With no word left, both are one place.
-#[derive(Drop)]
+#[derive(Clone, Copy)]
 pub struct Span {
     pub from: usize,
     pub to: usize,
 }
 
 // Which of two words.
-#[derive(Drop)]
+#[derive(Clone, Copy)]
 pub enum Choice {
     Yes,
     No,

@@ -1,4 +1,6 @@
 // The modes: how one comes to act.
+#![tactic(auto)]
+
 ghost use Rattle.std.specs.Prelude.{◌≡◌};
 ghost use Rattle.modes.specs.Modes.{mode_changed, ctrl0_written, can_sleep, bus_quiet, bus_activity};
 

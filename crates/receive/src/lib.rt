@@ -1,4 +1,6 @@
 // A frame that the mode takes: the filters, the room, and what an arrival changes.
+#![tactic(auto)]
+
 ghost use Rattle.std.specs.Prelude.{◌≡◌};
 ghost use Rattle.receive.specs.Receive.{matching, hits, over_latest, filters_and_room, is_queued, reaches_temporary, queued_flag};
 ghost use Rattle.receive.specs.Receive.{filter_flag, queue_after, next_serial, serials_after, own_frame, arrived};
@@ -8,7 +10,7 @@ use fifo::{Fifo, Message};
 use frame::Header;
 
 // What becomes of a good frame.
-#[derive(Drop)]
+#[derive(Clone, Copy)]
 pub enum Arrival {
     Queued,
     // Queued in the place of the latest of eight that waited. That one is lost: its identifier, and whether it is an
@@ -25,7 +27,7 @@ pub enum Arrival {
 }
 
 // What an event brings.
-#[derive(Drop)]
+#[derive(Clone, Copy)]
 pub struct Brought {
     // Whether a frame comes at all.
     pub comes: bool,

@@ -1,4 +1,6 @@
 // Whether a transfer is refused, and by which number: the checks in rising order, each a question of its own.
+#![tactic(auto)]
+
 ghost use Rattle.std.specs.Prelude.{◌≡◌};
 ghost use Rattle.refused.specs.Refused.{length_fits, sets_up, outside_set_up, finds_full, reads_message, finds_none};
 ghost use Rattle.refused.specs.Refused.{refusal, row_judged, verdict};
@@ -6,7 +8,7 @@ ghost use Rattle.refused.specs.Refused.{refusal, row_judged, verdict};
 use chip::{Device, INITIALIZATION};
 use commands::{Found, Row, verb};
 
-#[derive(Drop)]
+#[derive(Clone, Copy)]
 pub enum Verdict {
     Refused(u8),
     Accepted(Row),

@@ -1,4 +1,6 @@
 // What a command shows: sixteen bytes, of which the reply is the first few.
+#![tactic(auto)]
+
 ghost use Rattle.std.specs.Prelude.{◌≡◌, [], ◌∷◌, ◌≤◌};
 ghost use Rattle.base.specs.Bit.{time_bytes};
 ghost use Rattle.shown.specs.Shown.{padded, cut, register, shows};

@@ -1,5 +1,7 @@
 // An example of a caller: a terminal on a forklift. The bus brings scans; INT wakes the terminal, which reads
 // messages until RXFMTY and prints each scan. Of `shift` it is proved that what it prints is what arrived.
+#![tactic(auto)]
+
 ghost use Rattle.std.specs.Prelude.{◌≡◌, ◌+◌, ◌*◌, ◌/◌, ◌≤◌, length, take};
 ghost use Rattle.terminal.specs.Terminal.{scanner, written, asked, switched_on, brought, status_of, scan_read, Reached, Listens, Wakes, Served};
 
@@ -37,7 +39,7 @@ fn scanner() -> Header
     }
 }
 
-#[derive(Drop)]
+#[derive(Clone, Copy)]
 struct Status {
     device: Device,
     // RXFMTY is low.
@@ -45,7 +47,7 @@ struct Status {
 }
 
 // The device after the terminal looked at it, and how much of the page is printed.
-#[derive(Drop)]
+#[derive(Clone, Copy)]
 struct Turn {
     device: Device,
     used: usize,

@@ -1,11 +1,13 @@
 // The message that 0x12 brings after its command byte: Table 2.
+#![tactic(auto)]
+
 ghost use Rattle.std.specs.Prelude.{◌≡◌, true};
 ghost use Rattle.to_send.specs.ToSend.{is_extended, data_from, code_in, standard_header, extended_header};
 ghost use Rattle.to_send.specs.ToSend.{header_to_send, right_length, message_in, message_of, stored};
 
 use frame::Header;
 
-#[derive(Drop)]
+#[derive(Clone, Copy)]
 pub struct ToSend {
     // Told again in the transmit history.
     pub tag: u8,
@@ -14,7 +16,7 @@ pub struct ToSend {
 }
 
 // What 0x12 brought: the message, or an empty one in its place where the length is wrong.
-#[derive(Drop)]
+#[derive(Clone, Copy)]
 pub struct Reading {
     pub fits: bool,
     pub message: ToSend,

@@ -1,4 +1,6 @@
 // A transmission: when it may begin, its start, and each of its ends.
+#![tactic(auto)]
+
 ghost use Rattle.std.specs.Prelude.{◌≡◌};
 ghost use Rattle.transmit.specs.Transmit.{sends, can_begin, without_tx1m, ctrl1_begun, begun, stopped, disabled};
 ghost use Rattle.transmit.specs.Transmit.{aborted, left_alone, cleared, stamped, fifo_after, counted_completion};

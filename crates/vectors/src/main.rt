@@ -1,5 +1,7 @@
 // The worked numbers of document 01 that are run, its five errors of a hurried builder as scenarios, and the inputs
 // that no script of `face` can bring: a line for each, held against the crate's file `stdout`.
+#![tactic(auto)]
+
 mod last_numbers;
 mod ranges;
 mod say;

@@ -1,5 +1,7 @@
 // Why a frame would not arrive: what the device would answer and, where no filter matches, the first place at which
 // each differs from the frame. Nothing is changed.
+#![tactic(auto)]
+
 ghost use Rattle.std.specs.Prelude.{◌≡◌};
 ghost use Rattle.why.specs.Why.{no_place, first_place, places, is_a4, no_filter, explained};
 ghost use Rattle.why.specs.Fields.{field_of, field_at};
@@ -12,7 +14,7 @@ use judged::Answer;
 use receive::Arrival;
 
 // A bit of a filter's six bytes: byte from 1 on, bit from 7 down to 0, as Table 4a counts them. Byte 0 is no place.
-#[derive(Drop)]
+#[derive(Clone, Copy)]
 pub struct Place {
     pub byte: u8,
     pub bit: u8,
@@ -22,7 +24,7 @@ pub struct Place {
     pub came: u8,
 }
 
-#[derive(Drop)]
+#[derive(Clone, Copy)]
 pub struct Why {
     // What `bus::event` would answer.
     pub answer: Answer,
@@ -31,7 +33,7 @@ pub struct Why {
 }
 
 // What stands at a place of Table 4a.
-#[derive(Drop)]
+#[derive(Clone, Copy)]
 pub enum Field {
     // ID28 to ID0, by its number.
     Id(u8),
