@@ -32,6 +32,7 @@ fn down(n: u8) -> u8
     if n == 0 { 0 } else { n - 1 }
 }
 
+#[tactic(auto, unfolding(crate::specs::Rules::receive_error))]
 pub fn receive_error(c: Counters) -> Counters
     ensures { result ≡ receive_error c }
 {
@@ -39,6 +40,7 @@ pub fn receive_error(c: Counters) -> Counters
     Counters { rec, ..c }
 }
 
+#[tactic(auto, unfolding(crate::specs::Rules::dominant_bit))]
 pub fn dominant_bit(c: Counters) -> Counters
     ensures { result ≡ dominant_bit c }
 {
@@ -47,6 +49,7 @@ pub fn dominant_bit(c: Counters) -> Counters
 }
 
 // CAN 2.0B lets REC come down from 128 and above to 119 to 127; the house rules 119.
+#[tactic(auto, unfolding(crate::specs::Rules::good_frame))]
 pub fn good_frame(c: Counters) -> Counters
     ensures { result ≡ good_frame c }
 {
@@ -60,6 +63,7 @@ pub fn good_frame(c: Counters) -> Counters
 }
 
 // A transmit error that CAN 2.0B counts.
+#[tactic(auto, using(base::specs::Pick::picks), unfolding(crate::specs::Rules::transmit_error))]
 pub fn transmit_error(c: Counters) -> Counters
     ensures { result ≡ transmit_error c }
 {
@@ -80,6 +84,7 @@ pub fn transmit_error(c: Counters) -> Counters
     }
 }
 
+#[tactic(auto, using(base::specs::Pick::picks), unfolding(crate::specs::Rules::completed))]
 pub fn completed(c: Counters) -> Counters
     ensures { result ≡ completed c }
 {
@@ -93,6 +98,7 @@ pub fn completed(c: Counters) -> Counters
 }
 
 // Eleven recessive bits, with 000's BOR bit for automatic recovery.
+#[tactic(auto, using(base::specs::Pick::picks), unfolding(crate::specs::Rules::eleven_recessive))]
 pub fn eleven_recessive(c: Counters, bor: bool) -> Counters
     ensures { result ≡ eleven_recessive c bor }
 {
@@ -116,6 +122,7 @@ pub fn eleven_recessive(c: Counters, bor: bool) -> Counters
 }
 
 // The test write 0x24.
+#[tactic(auto, unfolding(crate::specs::Rules::test_rec))]
 pub fn test_rec(c: Counters, rec: u8) -> Counters
     ensures { result ≡ test_rec c rec }
 {
@@ -123,6 +130,7 @@ pub fn test_rec(c: Counters, rec: u8) -> Counters
 }
 
 // The test write 0x26.
+#[tactic(auto, using(base::specs::Pick::picks), unfolding(crate::specs::Rules::test_tec))]
 pub fn test_tec(c: Counters, tec: u8) -> Counters
     ensures { result ≡ test_tec c tec }
 {
