@@ -17,6 +17,7 @@ use types::{Hits, Numbers, Outcome, Pins};
 
 pub mod types;
 
+#[tactic(auto, using(base::specs::Pick::picks, base::specs::Pick::judges), unfolding(crate::specs::Event::answered))]
 fn answered(d: Device, e: Event, b: Brought, hits: u8) -> Answer
     ensures { result ≡ answered d e b hits }
 {
@@ -36,6 +37,7 @@ fn answered(d: Device, e: Event, b: Brought, hits: u8) -> Answer
 }
 
 // The answer that an event gets; the device stays.
+#[tactic(auto, unfolding(crate::specs::Event::answer))]
 pub fn answer(d: Device, e: Event, payload: [u8; 8]) -> Answer
     ensures { result ≡ answer d e payload }
 {
@@ -44,6 +46,7 @@ pub fn answer(d: Device, e: Event, payload: [u8; 8]) -> Answer
     answered(d, e, b, hits)
 }
 
+#[tactic(auto, unfolding(crate::specs::Event::answer, crate::specs::Event::event))]
 pub fn event(d: Device, e: Event, payload: [u8; 8]) -> Outcome
     ensures { result ≡ event d e payload }
 {
@@ -73,6 +76,7 @@ pub fn event(d: Device, e: Event, payload: [u8; 8]) -> Outcome
 }
 
 // Which filters match a frame, whether FILTON is on or not: people tune filters before they turn them on.
+#[tactic(auto, using(base::specs::Pick::picks, base::specs::Pick::judges), unfolding(crate::specs::Hits::hits))]
 pub fn hits(d: Device, h: Header, given: usize, payload: [u8; 8]) -> Hits
     ensures { result ≡ hits d h given payload }
 {
@@ -87,6 +91,7 @@ pub fn hits(d: Device, h: Header, given: usize, payload: [u8; 8]) -> Hits
 }
 
 // The arrival number of the message so many behind the oldest, where one waits.
+#[tactic(auto, using(base::specs::Pick::picks), unfolding(crate::specs::Numbers::waiting_number))]
 fn waiting_number(d: Device, k: u8) -> u64
     ensures { result ≡ waiting_number d k }
 {
@@ -95,6 +100,7 @@ fn waiting_number(d: Device, k: u8) -> u64
     if k < d.rx.count { places[place] } else { 0 }
 }
 
+#[tactic(auto, unfolding(crate::specs::Numbers::waiting_numbers))]
 fn waiting_numbers(d: Device) -> [u64; 8]
     ensures { result ≡ waiting_numbers d }
 {
@@ -111,6 +117,7 @@ fn waiting_numbers(d: Device) -> [u64; 8]
 }
 
 // The arrival numbers, for the layer above: which of two like messages the next read takes.
+#[tactic(auto, using(base::specs::Pick::picks), unfolding(crate::specs::Numbers::numbers))]
 pub fn numbers(d: Device) -> Numbers
     ensures { result ≡ numbers d }
 {
@@ -134,6 +141,7 @@ pub fn numbers(d: Device) -> Numbers
 }
 
 // The four output pins.
+#[tactic(auto, unfolding(crate::specs::Pins::pins))]
 pub fn pins(d: Device) -> Pins
     ensures { result ≡ pins d }
 {

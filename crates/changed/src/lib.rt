@@ -21,6 +21,7 @@ const FRMERR: u8 = 8;
 
 const BITERR: u8 = 16;
 
+#[tactic(auto, using(base::specs::Pick::picks, base::specs::Pick::judges), unfolding(crate::specs::Changed::err_bit))]
 fn err_bit(kind: ErrorKind) -> u8
     ensures { result ≡ err_bit kind }
 {
@@ -34,6 +35,7 @@ fn err_bit(kind: ErrorKind) -> u8
 }
 
 // A good frame lowers REC in normal mode.
+#[tactic(auto, using(base::specs::Pick::picks, base::specs::Pick::judges), unfolding(crate::specs::Changed::counted_frame))]
 fn counted_frame(c: Counters, acting: u8) -> Counters
     ensures { result ≡ counted_frame c acting }
 {
@@ -44,6 +46,7 @@ fn counted_frame(c: Counters, acting: u8) -> Counters
     }
 }
 
+#[tactic(auto, using(base::specs::Pick::picks, base::specs::Pick::judges), unfolding(crate::specs::Changed::counted_receive_error))]
 fn counted_receive_error(c: Counters, acting: u8) -> Counters
     ensures { result ≡ counted_receive_error c acting }
 {
@@ -54,6 +57,7 @@ fn counted_receive_error(c: Counters, acting: u8) -> Counters
     }
 }
 
+#[tactic(auto, using(base::specs::Pick::picks, base::specs::Pick::judges), unfolding(crate::specs::Changed::receive_error_met))]
 fn receive_error_met(d: Device, kind: ErrorKind) -> Device
     ensures { result ≡ receive_error_met d kind }
 {
@@ -64,6 +68,7 @@ fn receive_error_met(d: Device, kind: ErrorKind) -> Device
     e
 }
 
+#[tactic(auto, using(base::specs::Pick::picks, base::specs::Pick::judges), unfolding(crate::specs::Changed::dominant_met))]
 fn dominant_met(d: Device) -> Device
     ensures { result ≡ dominant_met d }
 {
@@ -79,6 +84,7 @@ fn dominant_met(d: Device) -> Device
     }
 }
 
+#[tactic(auto, using(base::specs::Pick::picks, base::specs::Pick::judges), unfolding(crate::specs::Changed::counted_transmit_error))]
 fn counted_transmit_error(c: Counters, acting: u8, counted: bool) -> Counters
     ensures { result ≡ counted_transmit_error c acting counted }
 {
@@ -93,6 +99,7 @@ fn counted_transmit_error(c: Counters, acting: u8, counted: bool) -> Counters
     }
 }
 
+#[tactic(auto, using(base::specs::Pick::picks, base::specs::Pick::judges), unfolding(crate::specs::Changed::transmit_error_met))]
 fn transmit_error_met(d: Device, kind: ErrorKind, counted: bool) -> Device
     ensures { result ≡ transmit_error_met d kind counted }
 {
@@ -103,6 +110,7 @@ fn transmit_error_met(d: Device, kind: ErrorKind, counted: bool) -> Device
     transmit::stopped(e)
 }
 
+#[tactic(auto, unfolding(crate::specs::Changed::recessive_met))]
 fn recessive_met(d: Device) -> Device
     ensures { result ≡ recessive_met d }
 {
@@ -119,6 +127,7 @@ fn later(time: u16, count: u64) -> u16
     ((time as u64 + count % 65536) % 65536) as u16
 }
 
+#[tactic(auto, using(base::specs::Pick::picks, base::specs::Pick::judges), unfolding(crate::specs::Changed::ticked))]
 fn ticked(d: Device, count: u64) -> Device
     ensures { result ≡ ticked d count }
 {
@@ -128,6 +137,7 @@ fn ticked(d: Device, count: u64) -> Device
     e
 }
 
+#[tactic(auto, using(base::specs::Pick::picks, base::specs::Pick::judges), unfolding(crate::specs::Changed::pin_set))]
 fn pin_set(d: Device, level: bool) -> Device
     ensures { result ≡ pin_set d level }
 {
@@ -137,6 +147,7 @@ fn pin_set(d: Device, level: bool) -> Device
 }
 
 // A frame that was taken, from the bus.
+#[tactic(auto, using(base::specs::Pick::picks, base::specs::Pick::judges), unfolding(crate::specs::Changed::heard))]
 fn heard(d: Device) -> Device
     ensures { result ≡ heard d }
 {
@@ -148,6 +159,7 @@ fn heard(d: Device) -> Device
 }
 
 // A frame that was taken: our own message arrives first, then it is sent.
+#[tactic(auto, using(base::specs::Pick::picks, base::specs::Pick::judges), unfolding(crate::specs::Changed::taken))]
 fn taken(d: Device, own: bool) -> Device
     ensures { result ≡ taken d own }
 {
@@ -160,6 +172,7 @@ fn taken(d: Device, own: bool) -> Device
 
 // An event that brought a frame, by the filters that it hits and what became of it. One that isn't taken is still
 // activity on the bus, and wakes a sleeping device if WAKEUP is set.
+#[tactic(auto, using(base::specs::Pick::picks, base::specs::Pick::judges), unfolding(crate::specs::Changed::arrival))]
 pub fn arrival(d: Device, b: Brought, hits: u8, what: Arrival) -> Device
     ensures { result ≡ arrival d b hits what }
 {
@@ -171,6 +184,7 @@ pub fn arrival(d: Device, b: Brought, hits: u8, what: Arrival) -> Device
 }
 
 // An event that brought none.
+#[tactic(auto, unfolding(crate::specs::Changed::after))]
 pub fn after(d: Device, e: Event) -> Device
     ensures { result ≡ after d e }
 {

@@ -86,6 +86,7 @@ pub struct Device {
 }
 
 // The device after power-up.
+#[tactic(auto, unfolding(crate::specs::State::fresh))]
 pub fn fresh() -> Device
     ensures { result ≡ fresh }
 {
@@ -136,6 +137,7 @@ pub fn fresh() -> Device
 }
 
 // The mode that CTRL0's MODE bits name.
+#[tactic(auto, using(base::specs::Pick::picks, base::specs::Pick::judges), unfolding(crate::specs::State::mode_of))]
 pub fn mode_of(ctrl0: u8) -> u8
     ensures { result ≡ mode_of ctrl0 }
 {
@@ -194,6 +196,7 @@ pub fn filton(d: Device) -> bool
 }
 
 // Whether transmission is enabled: by TXEN, TX1M or the TXEN pin.
+#[tactic(auto, unfolding(crate::specs::State::enabled))]
 pub fn enabled(d: Device) -> bool
     ensures { result ≡ enabled d }
 {
@@ -208,6 +211,7 @@ pub fn spent(d: Device) -> bool
 }
 
 // Filters or masks as the match takes them.
+#[tactic(auto, unfolding(crate::specs::State::bank))]
 pub fn bank(patterns: [Pattern; 8]) -> [[u8; 6]; 8]
     ensures { result ≡ bank patterns }
 {
@@ -230,12 +234,14 @@ pub fn bank(patterns: [Pattern; 8]) -> [[u8; 6]; 8]
     [b0, b1, b2, b3, b4, b5, b6, b7]
 }
 
+#[tactic(auto, unfolding(crate::specs::Proper::registers_in_range))]
 fn registers_in_range(r: Registers) -> bool
     ensures { result ≡ registers_in_range r }
 {
     (r.errs <= 31) & (r.mtag <= 3)
 }
 
+#[tactic(auto, using(base::specs::Pick::picks, base::specs::Pick::judges), unfolding(crate::specs::Proper::sending_in_range))]
 fn sending_in_range(d: Device) -> bool
     ensures { result ≡ sending_in_range d }
 {
@@ -247,6 +253,7 @@ fn sending_in_range(d: Device) -> bool
     }
 }
 
+#[tactic(auto, using(base::specs::Pick::picks, base::specs::Pick::judges), unfolding(crate::specs::Proper::acting_in_range))]
 fn acting_in_range(d: Device) -> bool
     ensures { result ≡ acting_in_range d }
 {
@@ -260,6 +267,7 @@ fn acting_in_range(d: Device) -> bool
 }
 
 // Whether every count, place and field is one that the chip can have: any other device is refused with 1.
+#[tactic(auto, unfolding(crate::specs::Proper::proper))]
 pub fn proper(d: Device) -> bool
     ensures { result ≡ proper d }
 {

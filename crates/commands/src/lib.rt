@@ -27,6 +27,7 @@ pub enum Found {
     Nothing,
 }
 
+#[tactic(auto, unfolding(crate::specs::Table::rows))]
 fn at(i: usize) -> Row
     requires { i < length rows }
     ensures { result ≡ get_or rows i no_row }
@@ -44,6 +45,7 @@ fn at(i: usize) -> Row
 
 // The place of the command's row. It is looked up and not searched for: a search took more time than all else that a
 // transfer does (docs/DECISIONS.md, 50).
+#[tactic(auto, unfolding(crate::specs::Table::rows))]
 fn place(command: u8) -> u8
     ensures { result ≡ place_in rows command }
 {

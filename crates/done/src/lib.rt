@@ -10,6 +10,7 @@ use commands::verb;
 use fifo::Message;
 
 // The six bytes that a filter or mask write brings.
+#[tactic(auto, using(base::specs::Pick::picks, base::specs::Pick::judges), unfolding(crate::specs::Done::pattern))]
 fn pattern(bytes: &[u8]) -> Pattern
     ensures { result ≡ pattern bytes.now }
 {
@@ -26,6 +27,7 @@ fn pattern(bytes: &[u8]) -> Pattern
 }
 
 // The commands that change a register and nothing else.
+#[tactic(auto, using(base::specs::Pick::picks, base::specs::Pick::judges), unfolding(crate::specs::Done::registers_after))]
 fn registers_after(r: Registers, v: u8, value: u8) -> Registers
     ensures { result ≡ registers_after r v value }
 {
@@ -43,6 +45,7 @@ fn registers_after(r: Registers, v: u8, value: u8) -> Registers
 }
 
 // 0x12: the message comes last in the transmit FIFO.
+#[tactic(auto, using(base::specs::Pick::picks, base::specs::Pick::judges), unfolding(crate::specs::Done::message_written))]
 fn message_written(d: Device, bytes: &[u8]) -> Device
     ensures { result ≡ message_written d bytes.now }
 {
@@ -59,6 +62,7 @@ fn message_written(d: Device, bytes: &[u8]) -> Device
     e
 }
 
+#[tactic(auto, using(base::specs::Pick::picks, base::specs::Pick::judges), unfolding(crate::specs::Done::filter_written))]
 fn filter_written(d: Device, k: u8, p: Pattern) -> Device
     ensures { result ≡ filter_written d k p }
 {
@@ -70,6 +74,7 @@ fn filter_written(d: Device, k: u8, p: Pattern) -> Device
     e
 }
 
+#[tactic(auto, using(base::specs::Pick::picks, base::specs::Pick::judges), unfolding(crate::specs::Done::mask_written))]
 fn mask_written(d: Device, k: u8, p: Pattern) -> Device
     ensures { result ≡ mask_written d k p }
 {
@@ -81,6 +86,7 @@ fn mask_written(d: Device, k: u8, p: Pattern) -> Device
     e
 }
 
+#[tactic(auto, unfolding(crate::specs::Done::message_taken))]
 fn message_taken(d: Device) -> Device
     ensures { result ≡ message_taken d }
 {
@@ -91,6 +97,7 @@ fn message_taken(d: Device) -> Device
     e
 }
 
+#[tactic(auto, using(base::specs::Pick::picks, base::specs::Pick::judges), unfolding(crate::specs::Done::receive_cleared))]
 fn receive_cleared(d: Device) -> Device
     ensures { result ≡ receive_cleared d }
 {
@@ -100,6 +107,7 @@ fn receive_cleared(d: Device) -> Device
     e
 }
 
+#[tactic(auto, using(base::specs::Pick::picks, base::specs::Pick::judges), unfolding(crate::specs::Done::entry_taken))]
 fn entry_taken(d: Device) -> Device
     ensures { result ≡ entry_taken d }
 {
@@ -110,6 +118,7 @@ fn entry_taken(d: Device) -> Device
     e
 }
 
+#[tactic(auto, using(base::specs::Pick::picks, base::specs::Pick::judges), unfolding(crate::specs::Done::time_reset))]
 fn time_reset(d: Device) -> Device
     ensures { result ≡ time_reset d }
 {
@@ -118,6 +127,7 @@ fn time_reset(d: Device) -> Device
     e
 }
 
+#[tactic(auto, using(base::specs::Pick::picks, base::specs::Pick::judges), unfolding(crate::specs::Done::rec_written))]
 fn rec_written(d: Device, value: u8) -> Device
     ensures { result ≡ rec_written d value }
 {
@@ -127,6 +137,7 @@ fn rec_written(d: Device, value: u8) -> Device
     e
 }
 
+#[tactic(auto, using(base::specs::Pick::picks, base::specs::Pick::judges), unfolding(crate::specs::Done::tec_written))]
 fn tec_written(d: Device, value: u8) -> Device
     ensures { result ≡ tec_written d value }
 {
@@ -136,6 +147,7 @@ fn tec_written(d: Device, value: u8) -> Device
     e
 }
 
+#[tactic(auto, using(base::specs::Pick::picks, base::specs::Pick::judges), unfolding(crate::specs::Done::register_changed))]
 fn register_changed(d: Device, v: u8, value: u8) -> Device
     ensures { result ≡ register_changed d v value }
 {
@@ -147,6 +159,7 @@ fn register_changed(d: Device, v: u8, value: u8) -> Device
 }
 
 // The device after a command, whose bytes are these with the command byte.
+#[tactic(auto, using(base::specs::Pick::picks, base::specs::Pick::judges), unfolding(crate::specs::Done::does))]
 pub fn does(d: Device, v: u8, k: u8, bytes: &[u8]) -> Device
     ensures { result ≡ does d v k bytes.now }
 {

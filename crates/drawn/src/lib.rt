@@ -8,6 +8,7 @@ ghost use Rattle.drawn.specs.Drawn.{statf, err, tstat, messtat, share, int, stat
 use chip::{Device, IDLE};
 
 // The status flag register.
+#[tactic(auto, unfolding(crate::specs::Drawn::statf))]
 pub fn statf(d: Device) -> u8
     ensures { result ≡ statf d }
 {
@@ -23,6 +24,7 @@ pub fn statf(d: Device) -> u8
 }
 
 // The error register.
+#[tactic(auto, unfolding(crate::specs::Drawn::err))]
 pub fn err(d: Device) -> u8
     ensures { result ≡ err d }
 {
@@ -30,6 +32,7 @@ pub fn err(d: Device) -> u8
     levels::level_bits(c) + d.regs.errs % 32
 }
 
+#[tactic(auto, using(base::specs::Pick::picks, base::specs::Pick::judges), unfolding(crate::specs::Drawn::tstat))]
 fn tstat(d: Device) -> u8
     ensures { result ≡ tstat d }
 {
@@ -46,6 +49,7 @@ fn tstat(d: Device) -> u8
 }
 
 // The message status register.
+#[tactic(auto, unfolding(crate::specs::Drawn::messtat))]
 pub fn messtat(d: Device) -> u8
     ensures { result ≡ messtat d }
 {
@@ -67,6 +71,7 @@ fn is_set(i: u8, x: u8) -> bool
 }
 
 // The INT pin.
+#[tactic(auto, using(base::specs::Pick::picks, base::specs::Pick::judges), unfolding(crate::specs::Drawn::int))]
 pub fn int(d: Device) -> bool
     ensures { result ≡ int d }
 {
@@ -74,6 +79,7 @@ pub fn int(d: Device) -> bool
 }
 
 // The STAT pin.
+#[tactic(auto, unfolding(crate::specs::Drawn::stat))]
 pub fn stat(d: Device) -> bool
     ensures { result ≡ stat d }
 {
@@ -81,6 +87,7 @@ pub fn stat(d: Device) -> bool
 }
 
 // A general purpose pin, for the half of GPINE that picks its flag.
+#[tactic(auto, using(base::specs::Pick::picks, base::specs::Pick::judges), unfolding(crate::specs::Drawn::gp))]
 pub fn gp(d: Device, half: u8) -> bool
     ensures { result ≡ gp d half }
 {

@@ -18,6 +18,7 @@ pub struct Fifo {
     pub count: u8,
 }
 
+#[tactic(auto, using(base::specs::Pick::picks), unfolding(crate::specs::Queue::empty))]
 pub fn empty() -> Fifo
     ensures { result ≡ empty }
 {
@@ -62,6 +63,7 @@ pub fn place(q: Fifo, steps: u16) -> usize
 }
 
 // The message comes last. A ninth is not stored.
+#[tactic(auto, using(base::specs::Pick::picks), unfolding(crate::specs::Queue::put))]
 pub fn put(q: Fifo, m: Message) -> Fifo
     ensures { result ≡ put q m }
 {
@@ -85,6 +87,7 @@ fn latest_place(q: Fifo) -> usize
 }
 
 // The place that a message takes: behind the others or, where eight wait, the latest one's.
+#[tactic(auto, using(base::specs::Pick::picks), unfolding(crate::specs::Queue::place_over))]
 pub fn place_over(q: Fifo) -> usize
     ensures { result ≡ place_over q }
 {
@@ -96,6 +99,7 @@ pub fn place_over(q: Fifo) -> usize
 }
 
 // The message comes last; where eight wait, it takes the place of the latest.
+#[tactic(auto, using(base::specs::Pick::picks), unfolding(crate::specs::Queue::put_over))]
 pub fn put_over(q: Fifo, m: Message) -> Fifo
     ensures { result ≡ put_over q m }
 {
@@ -110,6 +114,7 @@ pub fn put_over(q: Fifo, m: Message) -> Fifo
 }
 
 // Without the oldest message.
+#[tactic(auto, using(base::specs::Pick::picks), unfolding(crate::specs::Queue::take))]
 pub fn take(q: Fifo) -> Fifo
     ensures { result ≡ take q }
 {
@@ -127,6 +132,7 @@ pub fn take(q: Fifo) -> Fifo
 }
 
 // The oldest message.
+#[tactic(auto, unfolding(crate::specs::Queue::next))]
 pub fn next(q: Fifo) -> Message
     ensures { result ≡ next q }
 {
@@ -135,6 +141,7 @@ pub fn next(q: Fifo) -> Message
 }
 
 // The latest message.
+#[tactic(auto, unfolding(crate::specs::Queue::latest))]
 pub fn latest(q: Fifo) -> Message
     ensures { result ≡ latest q }
 {
@@ -143,6 +150,7 @@ pub fn latest(q: Fifo) -> Message
 }
 
 // Whether the count and the place are ones that a queue of eight can have.
+#[tactic(auto, unfolding(crate::specs::Queue::in_range))]
 pub fn in_range(q: Fifo) -> bool
     ensures { result ≡ in_range q }
 {

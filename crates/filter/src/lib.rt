@@ -21,12 +21,14 @@ fn byte_agrees(frame: u8, filter: u8, mask: u8) -> bool
 }
 
 // Byte k of a mask, from 0, without the bit that doesn't count: the lowest of the fourth.
+#[tactic(auto, using(base::specs::Pick::picks))]
 fn counted(k: usize, mask: u8) -> u8
     ensures { result ≡ counted_byte k mask }
 {
     if k == 3 { mask / 2 * 2 } else { mask }
 }
 
+#[tactic(auto, unfolding(crate::specs::Match::matches))]
 pub fn matches(vector: [u8; 6], filter: [u8; 6], mask: [u8; 6]) -> bool
     ensures { result ≡ matches vector filter mask }
 {
@@ -40,6 +42,7 @@ pub fn matches(vector: [u8; 6], filter: [u8; 6], mask: [u8; 6]) -> bool
 }
 
 // Which filters match, as one byte: bit k is set exactly if filter k does.
+#[tactic(auto, unfolding(crate::specs::Hits::hits))]
 pub fn hits(bank: [[u8; 6]; 8], masks: [[u8; 6]; 8], vector: [u8; 6]) -> u8
     ensures { result ≡ hits bank masks vector }
 {
@@ -53,6 +56,7 @@ pub fn hits(bank: [[u8; 6]; 8], masks: [[u8; 6]; 8], vector: [u8; 6]) -> u8
 }
 
 // FILHIT3..0 of MESSTAT: the lowest filter of a set.
+#[tactic(auto, using(base::specs::Pick::picks), unfolding(crate::specs::Hits::filhit))]
 pub fn filhit(hits: u8) -> u8
     ensures { result ≡ filhit hits }
 {
@@ -64,6 +68,7 @@ pub fn filhit(hits: u8) -> u8
 }
 
 // How many filters are in a set.
+#[tactic(auto, unfolding(crate::specs::Hits::how_many))]
 pub fn how_many(hits: u8) -> u8
     ensures { result ≡ how_many hits }
 {
@@ -78,6 +83,7 @@ pub fn bit_at(bytes: [u8; 6], place: usize) -> u8
 }
 
 // A mask's bit at a place, without the bit that doesn't count.
+#[tactic(auto, using(base::specs::Pick::picks))]
 fn counted_at(mask: [u8; 6], place: usize) -> u8
     ensures { result ≡ counted_of mask place }
 {
@@ -95,6 +101,7 @@ fn differs_at(vector: [u8; 6], filter: [u8; 6], mask: [u8; 6], place: usize) -> 
 }
 
 // The first place that counts and differs; in a filter that matches there is none, and it is PLACES.
+#[tactic(auto, unfolding(crate::specs::First::first_difference))]
 pub fn first_difference(vector: [u8; 6], filter: [u8; 6], mask: [u8; 6]) -> usize
     ensures { result ≡ first_difference vector filter mask }
 {

@@ -25,6 +25,7 @@ pub const F1MESS: u8 = 2;
 pub const F0MESS: u8 = 1;
 
 // The flags rise; those that are up stay up.
+#[tactic(auto, using(base::specs::Pick::picks, base::specs::Pick::judges), unfolding(crate::specs::Flags::raised))]
 pub fn raised(d: Device, flags: u8) -> Device
     ensures { result ≡ raised d flags }
 {
@@ -35,6 +36,7 @@ pub fn raised(d: Device, flags: u8) -> Device
 }
 
 // An error on the bus, by its bit in ERR.
+#[tactic(auto, using(base::specs::Pick::picks, base::specs::Pick::judges), unfolding(crate::specs::Flags::bus_error))]
 pub fn bus_error(d: Device, bit: u8) -> Device
     ensures { result ≡ bus_error d bit }
 {
@@ -45,6 +47,7 @@ pub fn bus_error(d: Device, bit: u8) -> Device
 }
 
 // A master reset.
+#[tactic(auto, unfolding(crate::specs::Reset::reset))]
 pub fn reset(d: Device) -> Device
     ensures { result ≡ reset d }
 {

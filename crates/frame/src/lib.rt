@@ -43,6 +43,7 @@ const ID15: u32 = 32768;
 const ID7: u32 = 128;
 
 // How many data bytes a length code means. No frame has a code above 15; the rule's eight is said of those too.
+#[tactic(auto, using(base::specs::Pick::picks), unfolding(crate::specs::Length::data_length))]
 pub fn data_length(code: u8) -> usize
     ensures { result ≡ data_length code }
 {
@@ -50,6 +51,7 @@ pub fn data_length(code: u8) -> usize
 }
 
 // How many data bytes a frame with this header has.
+#[tactic(auto, using(base::specs::Pick::picks), unfolding(crate::specs::Length::data_bytes))]
 pub fn data_bytes(h: Header) -> usize
     ensures { result ≡ data_bytes h }
 {
@@ -58,6 +60,7 @@ pub fn data_bytes(h: Header) -> usize
 }
 
 // Whether a frame can have this header at all.
+#[tactic(auto, unfolding(crate::specs::Length::possible))]
 pub fn possible(h: Header) -> bool
     ensures { result ≡ possible h }
 {
@@ -67,6 +70,7 @@ pub fn possible(h: Header) -> bool
 }
 
 // Whether as many data bytes were given as the header asks for.
+#[tactic(auto, unfolding(crate::specs::Length::data_fits))]
 pub fn data_fits(h: Header, given: usize) -> bool
     ensures { result ≡ data_fits h given }
 {
@@ -74,6 +78,7 @@ pub fn data_fits(h: Header, given: usize) -> bool
 }
 
 // Byte k of a frame's data, from 0.
+#[tactic(auto, using(base::specs::Pick::picks, base::specs::Pick::judges))]
 fn data_byte(h: Header, payload: [u8; 8], k: usize) -> u8
     ensures { result ≡ get_or (data_of h payload) k 0 }
 {
@@ -82,6 +87,7 @@ fn data_byte(h: Header, payload: [u8; 8], k: usize) -> u8
 
 // The identifier in 0x12: Table 2. For whoever writes a message, a driver or another caller: no crate here calls it,
 // and 01's worked numbers are computed from its definition.
+#[tactic(auto, unfolding(crate::specs::Tables::id_to_send))]
 pub fn id_to_send(h: Header) -> IdBytes
     ensures { result ≡ id_to_send h }
 {
@@ -107,6 +113,7 @@ pub fn id_to_send(h: Header) -> IdBytes
 }
 
 // The identifier as 0x42 to 0x48 read it: Table 5, bytes 4 to 7.
+#[tactic(auto, unfolding(crate::specs::Tables::id_as_read))]
 pub fn id_as_read(h: Header) -> [u8; 4]
     ensures { result ≡ id_as_read h }
 {
@@ -122,6 +129,7 @@ pub fn id_as_read(h: Header) -> [u8; 4]
 }
 
 // What the filters are held against: Table 4a.
+#[tactic(auto, unfolding(crate::specs::Tables::compared))]
 pub fn compared(h: Header, payload: [u8; 8]) -> [u8; 6]
     ensures { result ≡ compared h payload }
 {
@@ -139,6 +147,7 @@ pub fn compared(h: Header, payload: [u8; 8]) -> [u8; 6]
 }
 
 // A received message: Table 5, all sixteen bytes.
+#[tactic(auto, unfolding(crate::specs::Received::received, crate::specs::Tables::id_as_read))]
 pub fn received(h: Header, payload: [u8; 8], time: u16, filhit: u8) -> [u8; 16]
     ensures { result ≡ received h payload time filhit }
 {
@@ -179,6 +188,7 @@ pub fn id_from(a: u8, b: u8, c: u8, d: u8) -> u32
 }
 
 // The header read back from a message's bytes.
+#[tactic(auto, unfolding(crate::specs::Received::header_in))]
 pub fn header_in(m: [u8; 16]) -> Header
     ensures { result ≡ header_in m }
 {

@@ -15,6 +15,7 @@ pub struct Outcome {
     pub number: u8,
 }
 
+#[tactic(auto, unfolding(crate::specs::Transfer::transfer, crate::specs::Transfer::reply_after))]
 pub fn transfer(d: Device, bytes: &[u8], reply: &mut [u8]) -> Outcome
     ensures outcome { result ≡ transfer d bytes.now (length reply.old) }
     ensures reply { reply.new ≡ reply_after d bytes.now reply.old }

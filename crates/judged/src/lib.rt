@@ -20,6 +20,7 @@ pub enum Answer {
     Arrived(Arrival),
 }
 
+#[tactic(auto, using(base::specs::Pick::picks, base::specs::Pick::judges), unfolding(crate::specs::Judged::quiet_mode))]
 fn quiet_mode(acting: u8) -> bool
     ensures { result ≡ quiet_mode acting }
 {
@@ -27,12 +28,14 @@ fn quiet_mode(acting: u8) -> bool
 }
 
 // Where no error can be met.
+#[tactic(auto, unfolding(crate::specs::Judged::no_errors))]
 fn no_errors(d: Device) -> bool
     ensures { result ≡ no_errors d }
 {
     quiet_mode(d.acting) | d.counters.busoff
 }
 
+#[tactic(auto, using(base::specs::Pick::picks, base::specs::Pick::judges), unfolding(crate::specs::Judged::runs))]
 fn runs(d: Device) -> bool
     ensures { result ≡ runs d }
 {
@@ -40,6 +43,7 @@ fn runs(d: Device) -> bool
 }
 
 // 8, of a good frame: impossible fields.
+#[tactic(auto, unfolding(crate::specs::Judged::impossible_frame))]
 pub fn impossible_frame(h: Header, given: usize) -> bool
     ensures { result ≡ impossible_frame h given }
 {
@@ -47,6 +51,7 @@ pub fn impossible_frame(h: Header, given: usize) -> bool
 }
 
 // 8: impossible fields, or an impossible time.
+#[tactic(auto, unfolding(crate::specs::Judged::impossible))]
 pub fn impossible(d: Device, e: Event) -> bool
     ensures { result ≡ impossible d e }
 {
@@ -68,6 +73,7 @@ pub fn impossible(d: Device, e: Event) -> bool
     }
 }
 
+#[tactic(auto, unfolding(crate::specs::Judged::takes_no_frames))]
 fn takes_no_frames(acting: u8) -> bool
     ensures { result ≡ takes_no_frames acting }
 {
@@ -75,6 +81,7 @@ fn takes_no_frames(acting: u8) -> bool
 }
 
 // A monitor acknowledges nothing, so it takes only what another node acknowledged.
+#[tactic(auto, using(base::specs::Pick::picks, base::specs::Pick::judges), unfolding(crate::specs::Judged::unacknowledged))]
 fn unacknowledged(acting: u8, acknowledged: bool) -> bool
     ensures { result ≡ unacknowledged acting acknowledged }
 {
@@ -83,6 +90,7 @@ fn unacknowledged(acting: u8, acknowledged: bool) -> bool
 
 // What becomes of a frame, by the filters that it hits: the first reason that holds. A1 to A3 speak of frames from the
 // bus alone.
+#[tactic(auto, using(base::specs::Pick::picks, base::specs::Pick::judges), unfolding(crate::specs::Judged::reason))]
 pub fn reason(d: Device, b: Brought, hits: u8) -> Arrival
     ensures { result ≡ reason d b hits }
 {
@@ -107,6 +115,7 @@ pub fn reason(d: Device, b: Brought, hits: u8) -> Arrival
 }
 
 // What an event says that isn't refused, by what it brings.
+#[tactic(auto, using(base::specs::Pick::picks, base::specs::Pick::judges), unfolding(crate::specs::Judged::said))]
 pub fn said(d: Device, b: Brought, hits: u8) -> Answer
     ensures { result ≡ said d b hits }
 {
@@ -119,6 +128,7 @@ pub fn said(d: Device, b: Brought, hits: u8) -> Answer
 }
 
 // Whether an answer gives a frame its arrival number.
+#[tactic(auto, unfolding(crate::specs::Judged::gives_number))]
 fn gives_number(a: Answer) -> bool
     ensures { result ≡ gives_number a }
 {
@@ -130,12 +140,14 @@ fn gives_number(a: Answer) -> bool
 }
 
 // 12: the frame is to be numbered, and the last number has been given.
+#[tactic(auto, unfolding(crate::specs::Judged::no_number_left))]
 pub fn no_number_left(d: Device, a: Answer) -> bool
     ensures { result ≡ no_number_left d a }
 {
     gives_number(a) & chip::spent(d)
 }
 
+#[tactic(auto, unfolding(crate::specs::Judged::bus_frame))]
 fn bus_frame(header: Header, acknowledged: bool, payload: [u8; 8]) -> Brought
     ensures { result ≡ bus_frame header acknowledged payload }
 {
@@ -148,6 +160,7 @@ fn bus_frame(header: Header, acknowledged: bool, payload: [u8; 8]) -> Brought
     }
 }
 
+#[tactic(auto, unfolding(crate::specs::Judged::nothing))]
 fn nothing() -> Brought
     ensures { result ≡ nothing }
 {
@@ -167,6 +180,7 @@ fn nothing() -> Brought
 }
 
 // What an event brings: a good frame; a completion our own message, which comes back in loopback alone; else nothing.
+#[tactic(auto, unfolding(crate::specs::Judged::brings))]
 pub fn brings(d: Device, e: Event, payload: [u8; 8]) -> Brought
     ensures { result ≡ brings d e payload }
 {

@@ -12,24 +12,28 @@ fn warns(n: u8) -> bool
     (96 <= n) & (n <= 127)
 }
 
+#[tactic(auto, unfolding(crate::specs::Levels::rxerrp))]
 fn rxerrp(c: Counters) -> bool
     ensures { result ≡ rxerrp c }
 {
     128 <= c.rec
 }
 
+#[tactic(auto, unfolding(crate::specs::Levels::txerrp))]
 fn txerrp(c: Counters) -> bool
     ensures { result ≡ txerrp c }
 {
     !c.busoff & (128 <= c.tec)
 }
 
+#[tactic(auto, unfolding(crate::specs::Levels::errw))]
 pub fn errw(c: Counters) -> bool
     ensures { result ≡ errw c }
 {
     warns(c.rec) | (!c.busoff & warns(c.tec))
 }
 
+#[tactic(auto, unfolding(crate::specs::Levels::errp))]
 pub fn errp(c: Counters) -> bool
     ensures { result ≡ errp c }
 {
@@ -37,6 +41,7 @@ pub fn errp(c: Counters) -> bool
 }
 
 // Bits 7 to 5 of ERR.
+#[tactic(auto, unfolding(crate::specs::Levels::level_bits))]
 pub fn level_bits(c: Counters) -> u8
     ensures { result ≡ level_bits c }
 {
@@ -44,6 +49,7 @@ pub fn level_bits(c: Counters) -> u8
 }
 
 // What 0xEC reads.
+#[tactic(auto, using(base::specs::Pick::picks), unfolding(crate::specs::Levels::tec_shown))]
 pub fn tec_shown(c: Counters) -> u8
     ensures { result ≡ tec_shown c }
 {
@@ -58,6 +64,7 @@ fn at_most_128(n: u8) -> u8
 }
 
 // What 0xF8 reads.
+#[tactic(auto, using(base::specs::Pick::picks), unfolding(crate::specs::Levels::groups_shown))]
 pub fn groups_shown(c: Counters) -> u8
     ensures { result ≡ groups_shown c }
 {

@@ -31,6 +31,7 @@ pub(crate) fn unreadable(expected: Expected, word: &[u8]) -> Line
 }
 
 // A request with its data, if they are all bytes.
+#[tactic(auto, unfolding(crate::specs::Request::carrying))]
 pub(crate) fn carrying(asked: Asked, d: Data) -> Line
     ensures { result ≡ carrying asked d }
 {
@@ -54,6 +55,7 @@ pub(crate) fn carrying(asked: Asked, d: Data) -> Line
 }
 
 // A complete request, if the line ends with it.
+#[tactic(auto, unfolding(crate::specs::Request::ending))]
 pub(crate) fn ending(asked: Asked, s: &[u8], at: usize) -> Line
     requires { at ≤ length s.now }
     ensures { result ≡ ending asked (words_of (drop at s.now)) }

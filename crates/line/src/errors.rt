@@ -15,6 +15,7 @@ pub enum Kind {
     Other,
 }
 
+#[tactic(auto, unfolding(crate::specs::Request::kind_of))]
 fn kind_of(word: &[u8]) -> Kind
     ensures { result ≡ kind_of word.now }
 {
@@ -33,6 +34,7 @@ fn kind_of(word: &[u8]) -> Kind
     }
 }
 
+#[tactic(auto, unfolding(crate::specs::Request::rxerr_of))]
 pub(crate) fn rxerr(s: &[u8], at: usize) -> Line
     requires { at ≤ length s.now }
     ensures { result ≡ rxerr_of (words_of (drop at s.now)) }
@@ -46,6 +48,7 @@ pub(crate) fn rxerr(s: &[u8], at: usize) -> Line
     }
 }
 
+#[tactic(auto, unfolding(crate::specs::Request::txerr_counted))]
 fn txerr_counted(kind: ErrorKind, s: &[u8], at: usize) -> Line
     requires { at ≤ length s.now }
     ensures { result ≡ txerr_counted kind (words_of (drop at s.now)) }
@@ -60,6 +63,7 @@ fn txerr_counted(kind: ErrorKind, s: &[u8], at: usize) -> Line
     }
 }
 
+#[tactic(auto, unfolding(crate::specs::Request::txerr_of))]
 pub(crate) fn txerr(s: &[u8], at: usize) -> Line
     requires { at ≤ length s.now }
     ensures { result ≡ txerr_of (words_of (drop at s.now)) }

@@ -22,6 +22,7 @@ pub enum For {
     Question,
 }
 
+#[tactic(auto, unfolding(crate::specs::Request::frame_data))]
 fn frame_data(header: Header, acked: bool, s: &[u8], at: usize) -> Line
     requires { at ≤ length s.now }
     ensures { result ≡ frame_data header acked (words_of (drop at s.now)) }
@@ -31,6 +32,7 @@ fn frame_data(header: Header, acked: bool, s: &[u8], at: usize) -> Line
     carrying(Asked::Happens(Event::GoodFrame(header, acked, count)), d)
 }
 
+#[tactic(auto, unfolding(crate::specs::Request::frame_ack))]
 fn frame_ack(header: Header, s: &[u8], at: usize) -> Line
     requires { at ≤ length s.now }
     ensures { result ≡ frame_ack header (words_of (drop at s.now)) }
@@ -45,6 +47,7 @@ fn frame_ack(header: Header, s: &[u8], at: usize) -> Line
     }
 }
 
+#[tactic(auto, unfolding(crate::specs::Request::hits_data))]
 fn hits_data(header: Header, s: &[u8], at: usize) -> Line
     requires { at ≤ length s.now }
     ensures { result ≡ hits_data header (words_of (drop at s.now)) }
@@ -55,6 +58,7 @@ fn hits_data(header: Header, s: &[u8], at: usize) -> Line
 }
 
 // What follows the length code: filters don't ask who acknowledged a frame.
+#[tactic(auto, unfolding(crate::specs::Request::frame_rest))]
 fn frame_rest(what: For, header: Header, s: &[u8], at: usize) -> Line
     requires { at ≤ length s.now }
     ensures { result ≡ frame_rest what header (words_of (drop at s.now)) }
@@ -72,6 +76,7 @@ fn code(word: &[u8]) -> u8
     if n < 255 { n as u8 } else { 255 }
 }
 
+#[tactic(auto, unfolding(crate::specs::Request::frame_code))]
 fn frame_code(what: For, id: u32, extended: bool, remote: bool, s: &[u8], at: usize) -> Line
     requires { at ≤ length s.now }
     ensures { result ≡ frame_code what id extended remote (words_of (drop at s.now)) }
@@ -92,6 +97,7 @@ fn frame_code(what: For, id: u32, extended: bool, remote: bool, s: &[u8], at: us
     }
 }
 
+#[tactic(auto, unfolding(crate::specs::Request::frame_remote))]
 fn frame_remote(what: For, id: u32, extended: bool, s: &[u8], at: usize) -> Line
     requires { at ≤ length s.now }
     ensures { result ≡ frame_remote what id extended (words_of (drop at s.now)) }
@@ -106,6 +112,7 @@ fn frame_remote(what: For, id: u32, extended: bool, s: &[u8], at: usize) -> Line
     }
 }
 
+#[tactic(auto, unfolding(crate::specs::Request::frame_kind))]
 fn frame_kind(what: For, id: u32, s: &[u8], at: usize) -> Line
     requires { at ≤ length s.now }
     ensures { result ≡ frame_kind what id (words_of (drop at s.now)) }
@@ -126,6 +133,7 @@ fn identifier(word: &[u8]) -> u32
     capped(word, 16) as u32
 }
 
+#[tactic(auto, unfolding(crate::specs::Request::frame_of))]
 pub(crate) fn frame(what: For, s: &[u8], at: usize) -> Line
     requires { at ≤ length s.now }
     ensures { result ≡ frame_of what (words_of (drop at s.now)) }

@@ -5,6 +5,7 @@ ghost use Rattle.line.specs.Numbers.{digit_of, is_number, value_of, is_byte, mos
 const MOST: u64 = 4294967295;
 
 // What a digit of base 16 is worth; 16 for a byte that is none.
+#[tactic(auto, unfolding(crate::specs::Numbers::digit_of))]
 fn digit(b: u8) -> u64
     ensures { (result ≡ digit_of b) × (result ≤ 16) }
 {
@@ -25,6 +26,7 @@ fn digit(b: u8) -> u64
     }
 }
 
+#[tactic(auto, unfolding(crate::specs::Numbers::is_number))]
 pub(crate) fn is_number(word: &[u8], base: u64) -> bool
     ensures { result ≡ is_number base word.now }
 {
@@ -49,6 +51,7 @@ fn cap(n: u64) -> u64
 }
 
 // What a number means, as far as 32 bits show it.
+#[tactic(auto, unfolding(crate::specs::Numbers::value_of))]
 pub(crate) fn capped(word: &[u8], base: u64) -> u64
     requires { (1 ≤ base) × (base ≤ 16) }
     ensures { result ≡ min (value_of base word.now) most }
@@ -63,6 +66,7 @@ pub(crate) fn capped(word: &[u8], base: u64) -> u64
 }
 
 // What a decimal number means, modulo 65536.
+#[tactic(auto, unfolding(crate::specs::Numbers::value_of))]
 pub(crate) fn wrapped(word: &[u8]) -> u64
     ensures { result ≡ value_of 10 word.now % 65536 }
 {
@@ -75,6 +79,7 @@ pub(crate) fn wrapped(word: &[u8]) -> u64
     n
 }
 
+#[tactic(auto, unfolding(crate::specs::Numbers::is_byte))]
 pub(crate) fn is_byte(word: &[u8]) -> bool
     ensures { result ≡ is_byte word.now }
 {

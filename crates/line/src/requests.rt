@@ -19,6 +19,7 @@ pub enum Alone {
     Unknown,
 }
 
+#[tactic(auto, unfolding(crate::specs::Request::ticks_of))]
 fn ticks(s: &[u8], at: usize) -> Line
     requires { at ≤ length s.now }
     ensures { result ≡ ticks_of (words_of (drop at s.now)) }
@@ -34,6 +35,7 @@ fn ticks(s: &[u8], at: usize) -> Line
     }
 }
 
+#[tactic(auto, unfolding(crate::specs::Request::txen_of))]
 fn txen(s: &[u8], at: usize) -> Line
     requires { at ≤ length s.now }
     ensures { result ≡ txen_of (words_of (drop at s.now)) }
@@ -49,6 +51,7 @@ fn txen(s: &[u8], at: usize) -> Line
 }
 
 // A request of one word.
+#[tactic(auto, unfolding(crate::specs::Request::alone_of))]
 fn alone_of(word: &[u8]) -> Alone
     ensures { result ≡ alone_of word.now }
 {
@@ -77,6 +80,7 @@ fn alone_of(word: &[u8]) -> Alone
     }
 }
 
+#[tactic(auto, unfolding(crate::specs::Request::lone_of))]
 fn lone(word: &[u8], s: &[u8], at: usize) -> Line
     requires { at ≤ length s.now }
     ensures { result ≡ lone_of word.now (words_of (drop at s.now)) }
@@ -88,6 +92,7 @@ fn lone(word: &[u8], s: &[u8], at: usize) -> Line
 }
 
 // A request by its first word; the others begin at `at`.
+#[tactic(auto, unfolding(crate::specs::Request::named_of))]
 fn named(word: &[u8], s: &[u8], at: usize) -> Line
     requires { at ≤ length s.now }
     ensures { result ≡ named_of word.now (words_of (drop at s.now)) }
@@ -114,6 +119,7 @@ fn named(word: &[u8], s: &[u8], at: usize) -> Line
 }
 
 // What a line without comments asks for.
+#[tactic(auto, unfolding(crate::specs::Request::request_of))]
 pub(crate) fn request(s: &[u8]) -> Line
     ensures { result ≡ request_of (words_of s.now) }
 {

@@ -10,6 +10,7 @@ use crate::numbers::{capped, is_number};
 use crate::words::is;
 use crate::{Asked, Expected, Line};
 
+#[tactic(auto, unfolding(crate::specs::Request::transfer_of))]
 pub(crate) fn transfer(lent: u8, s: &[u8], at: usize) -> Line
     requires { at ≤ length s.now }
     ensures { result ≡ transfer_of lent (words_of (drop at s.now)) }
@@ -29,6 +30,7 @@ pub(crate) fn is_sized(word: &[u8]) -> bool
 }
 
 // A transfer whose own word says how large the reply buffer is.
+#[tactic(auto, unfolding(crate::specs::Request::sized_of))]
 pub(crate) fn sized(word: &[u8], s: &[u8], at: usize) -> Line
     requires { (4 ≤ length word.now) × (at ≤ length s.now) }
     ensures { result ≡ sized_of word.now (words_of (drop at s.now)) }

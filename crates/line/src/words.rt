@@ -97,6 +97,7 @@ pub(crate) fn is(word: &[u8], text: &[u8]) -> bool
     }
 }
 
+#[tactic(auto, unfolding(crate::specs::Words::choice_of))]
 pub(crate) fn choose(word: &[u8], one: &[u8], other: &[u8]) -> Choice
     ensures { result ≡ choice_of word.now one.now other.now }
 {

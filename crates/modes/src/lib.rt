@@ -7,6 +7,7 @@ ghost use Rattle.modes.specs.Modes.{mode_changed, ctrl0_written, can_sleep, bus_
 use chip::{Device, IDLE, MONITOR, SLEEP};
 
 // Another mode acts.
+#[tactic(auto, using(base::specs::Pick::picks, base::specs::Pick::judges), unfolding(crate::specs::Modes::mode_changed))]
 fn mode_changed(d: Device, mode: u8) -> Device
     ensures { result ≡ mode_changed d mode }
 {
@@ -16,6 +17,7 @@ fn mode_changed(d: Device, mode: u8) -> Device
 }
 
 // The write of CTRL0, 0x14.
+#[tactic(auto, using(base::specs::Pick::picks, base::specs::Pick::judges), unfolding(crate::specs::Modes::ctrl0_written))]
 pub fn ctrl0_written(d: Device, value: u8) -> Device
     ensures { result ≡ ctrl0_written d value }
 {
@@ -39,6 +41,7 @@ pub fn ctrl0_written(d: Device, value: u8) -> Device
     mode_changed(f, named)
 }
 
+#[tactic(auto, unfolding(crate::specs::Modes::can_sleep))]
 fn can_sleep(d: Device) -> bool
     ensures { result ≡ can_sleep d }
 {
@@ -49,6 +52,7 @@ fn can_sleep(d: Device) -> bool
 }
 
 // The bus is quiet: a sleep that waits may begin.
+#[tactic(auto, using(base::specs::Pick::picks, base::specs::Pick::judges), unfolding(crate::specs::Modes::bus_quiet))]
 pub fn bus_quiet(d: Device) -> Device
     ensures { result ≡ bus_quiet d }
 {
@@ -60,6 +64,7 @@ pub fn bus_quiet(d: Device) -> Device
 }
 
 // Something moves on the bus: with WAKEUP set, a sleeping device wakes into monitor mode.
+#[tactic(auto, unfolding(crate::specs::Modes::bus_activity))]
 pub fn bus_activity(d: Device) -> Device
     ensures { result ≡ bus_activity d }
 {

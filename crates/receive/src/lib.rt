@@ -40,6 +40,7 @@ pub struct Brought {
 }
 
 // Which filters match a frame, whether FILTON is on or not.
+#[tactic(auto, unfolding(crate::specs::Receive::matching))]
 pub fn matching(d: Device, h: Header, payload: [u8; 8]) -> u8
     ensures { result ≡ matching d h payload }
 {
@@ -52,6 +53,7 @@ pub fn matching(d: Device, h: Header, payload: [u8; 8]) -> u8
 }
 
 // The filters that a frame hits: where none comes, or FILTON is off, none is asked.
+#[tactic(auto, using(base::specs::Pick::picks, base::specs::Pick::judges), unfolding(crate::specs::Receive::hits))]
 pub fn hits(d: Device, b: Brought) -> u8
     ensures { result ≡ hits d b }
 {
@@ -65,6 +67,7 @@ pub fn hits(d: Device, b: Brought) -> u8
 }
 
 // A frame takes the place of the latest message, which is named.
+#[tactic(auto, unfolding(crate::specs::Receive::over_latest))]
 fn over_latest(q: Fifo) -> Arrival
     ensures { result ≡ over_latest q }
 {
@@ -76,6 +79,7 @@ fn over_latest(q: Fifo) -> Arrival
 
 // What becomes of a frame that the mode takes, by the filters that it hits. The room is asked for last: a stranger's
 // frame takes nobody's place.
+#[tactic(auto, using(base::specs::Pick::picks, base::specs::Pick::judges), unfolding(crate::specs::Receive::filters_and_room))]
 pub fn filters_and_room(d: Device, hits: u8) -> Arrival
     ensures { result ≡ filters_and_room d hits }
 {
@@ -90,6 +94,7 @@ pub fn filters_and_room(d: Device, hits: u8) -> Arrival
     Arrival::Queued
 }
 
+#[tactic(auto, using(base::specs::Pick::picks, base::specs::Pick::judges), unfolding(crate::specs::Receive::is_queued))]
 fn is_queued(a: Arrival) -> bool
     ensures { result ≡ is_queued a }
 {
@@ -104,6 +109,7 @@ fn is_queued(a: Arrival) -> bool
 }
 
 // Whether a good frame reaches the temporary buffer, and so gets an arrival number.
+#[tactic(auto, using(base::specs::Pick::picks, base::specs::Pick::judges), unfolding(crate::specs::Receive::reaches_temporary))]
 pub fn reaches_temporary(what: Arrival) -> bool
     ensures { result ≡ reaches_temporary what }
 {
@@ -117,6 +123,7 @@ pub fn reaches_temporary(what: Arrival) -> bool
     }
 }
 
+#[tactic(auto, using(base::specs::Pick::picks, base::specs::Pick::judges), unfolding(crate::specs::Receive::queued_flag))]
 fn queued_flag(queued: bool) -> u8
     ensures { result ≡ queued_flag queued }
 {
@@ -124,6 +131,7 @@ fn queued_flag(queued: bool) -> u8
 }
 
 // F0MESS and F1MESS follow the lowest alone.
+#[tactic(auto, using(base::specs::Pick::picks, base::specs::Pick::judges), unfolding(crate::specs::Receive::filter_flag))]
 fn filter_flag(hits: u8) -> u8
     ensures { result ≡ filter_flag hits }
 {
@@ -136,6 +144,7 @@ fn filter_flag(hits: u8) -> u8
     }
 }
 
+#[tactic(auto, using(base::specs::Pick::picks, base::specs::Pick::judges), unfolding(crate::specs::Receive::queue_after))]
 fn queue_after(q: Fifo, m: Message, queued: bool) -> Fifo
     ensures { result ≡ queue_after q m queued }
 {
@@ -143,6 +152,7 @@ fn queue_after(q: Fifo, m: Message, queued: bool) -> Fifo
 }
 
 // The next number; the last stays the last.
+#[tactic(auto, using(base::specs::Pick::picks), unfolding(crate::specs::Receive::next_serial))]
 fn next_serial(last: u64) -> u64
     ensures { result ≡ next_serial last }
 {
@@ -151,6 +161,7 @@ fn next_serial(last: u64) -> u64
 
 // The arrival numbers with one more: the frame's own, in the temporary buffer and, if it is queued, at its place in the
 // FIFO.
+#[tactic(auto, using(base::specs::Pick::picks), unfolding(crate::specs::Receive::serials_after))]
 fn serials_after(s: Serials, q: Fifo, queued: bool) -> Serials
     ensures { result ≡ serials_after s q queued }
 {
@@ -168,6 +179,7 @@ fn serials_after(s: Serials, q: Fifo, queued: bool) -> Serials
 }
 
 // The message in the transmit buffer, which comes back in loopback alone.
+#[tactic(auto, unfolding(crate::specs::Receive::own_frame))]
 pub fn own_frame(d: Device) -> Brought
     ensures { result ≡ own_frame d }
 {
@@ -185,6 +197,7 @@ pub fn own_frame(d: Device) -> Brought
 }
 
 // The device with the frame arrived: in the temporary buffer in any case, in the FIFO if it is queued.
+#[tactic(auto, unfolding(crate::specs::Receive::arrived))]
 pub fn arrived(d: Device, b: Brought, hits: u8, what: Arrival) -> Device
     ensures { result ≡ arrived d b hits what }
 {

@@ -15,6 +15,7 @@ pub enum Verdict {
 }
 
 // 3: the transfer's length, with its command byte, is the command's.
+#[tactic(auto, using(base::specs::Pick::picks, base::specs::Pick::judges), unfolding(crate::specs::Refused::length_fits))]
 fn length_fits(r: Row, bytes: &[u8]) -> bool
     ensures { result ≡ length_fits r bytes.now }
 {
@@ -34,6 +35,7 @@ fn length_fits(r: Row, bytes: &[u8]) -> bool
     true
 }
 
+#[tactic(auto, using(base::specs::Pick::picks, base::specs::Pick::judges), unfolding(crate::specs::Refused::sets_up))]
 fn sets_up(v: u8) -> bool
     ensures { result ≡ sets_up v }
 {
@@ -47,6 +49,7 @@ fn sets_up(v: u8) -> bool
 }
 
 // 5: a filter, mask or bit-timing write outside initialization mode.
+#[tactic(auto, unfolding(crate::specs::Refused::outside_set_up))]
 fn outside_set_up(acting: u8, v: u8) -> bool
     ensures { result ≡ outside_set_up acting v }
 {
@@ -54,12 +57,14 @@ fn outside_set_up(acting: u8, v: u8) -> bool
 }
 
 // 6: a message is written and eight are in the transmit FIFO.
+#[tactic(auto, unfolding(crate::specs::Refused::finds_full))]
 fn finds_full(waiting: u8, v: u8) -> bool
     ensures { result ≡ finds_full waiting v }
 {
     (v == verb::WRITE_MESSAGE) & fifo::eight_wait(waiting)
 }
 
+#[tactic(auto, using(base::specs::Pick::picks, base::specs::Pick::judges), unfolding(crate::specs::Refused::reads_message))]
 fn reads_message(v: u8) -> bool
     ensures { result ≡ reads_message v }
 {
@@ -73,6 +78,7 @@ fn reads_message(v: u8) -> bool
 }
 
 // 7: a receive FIFO or history read finds none.
+#[tactic(auto, using(base::specs::Pick::picks, base::specs::Pick::judges), unfolding(crate::specs::Refused::finds_none))]
 fn finds_none(waiting: u8, entries: u8, v: u8) -> bool
     ensures { result ≡ finds_none waiting entries v }
 {
@@ -86,6 +92,7 @@ fn finds_none(waiting: u8, entries: u8, v: u8) -> bool
 }
 
 // The first number that applies to a command in the table, or 0.
+#[tactic(auto, using(base::specs::Pick::picks, base::specs::Pick::judges), unfolding(crate::specs::Refused::refusal))]
 fn refusal(d: Device, r: Row, bytes: &[u8], lent: usize) -> u8
     ensures { result ≡ refusal d r bytes.now lent }
 {
@@ -113,6 +120,7 @@ fn refusal(d: Device, r: Row, bytes: &[u8], lent: usize) -> u8
     0
 }
 
+#[tactic(auto, using(base::specs::Pick::picks), unfolding(crate::specs::Refused::row_judged))]
 fn row_judged(d: Device, found: Found, bytes: &[u8], lent: usize) -> Verdict
     ensures { result ≡ row_judged d found bytes.now lent }
 {
@@ -129,6 +137,7 @@ fn row_judged(d: Device, found: Found, bytes: &[u8], lent: usize) -> Verdict
     }
 }
 
+#[tactic(auto, using(base::specs::Pick::picks, base::specs::Pick::judges), unfolding(crate::specs::Refused::verdict))]
 pub fn judge(d: Device, bytes: &[u8], lent: usize) -> Verdict
     ensures { result ≡ verdict d bytes.now lent }
 {

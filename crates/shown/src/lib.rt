@@ -10,6 +10,7 @@ use commands::verb;
 use fifo::Message;
 
 // A message's bytes from a place on.
+#[tactic(auto, unfolding(crate::specs::Shown::cut))]
 fn tail(m: Message, from: usize) -> [u8; 16]
     requires { from ≤ 16 }
     ensures { result ≡ cut m 0 from }
@@ -21,6 +22,7 @@ fn tail(m: Message, from: usize) -> [u8; 16]
 }
 
 // Bytes 1 and 4 to 16. Here and below the tail begins early, by the bytes that are then written over its start.
+#[tactic(auto, unfolding(crate::specs::Shown::cut))]
 fn without_time(m: Message) -> [u8; 16]
     ensures { result ≡ cut m 1 3 }
 {
@@ -31,6 +33,7 @@ fn without_time(m: Message) -> [u8; 16]
 }
 
 // Bytes 1 and 9 to 16.
+#[tactic(auto, unfolding(crate::specs::Shown::cut))]
 fn data_only(m: Message) -> [u8; 16]
     ensures { result ≡ cut m 1 8 }
 {
@@ -41,6 +44,7 @@ fn data_only(m: Message) -> [u8; 16]
 }
 
 // Bytes 1 to 3 and 9 to 16.
+#[tactic(auto, unfolding(crate::specs::Shown::cut))]
 fn data_with_time(m: Message) -> [u8; 16]
     ensures { result ≡ cut m 3 8 }
 {
@@ -53,6 +57,7 @@ fn data_with_time(m: Message) -> [u8; 16]
 }
 
 // Bytes 1 to 3.
+#[tactic(auto, unfolding(crate::specs::Shown::cut))]
 fn tag_and_time(m: Message) -> [u8; 16]
     ensures { result ≡ cut m 3 16 }
 {
@@ -74,6 +79,7 @@ fn six(p: Pattern) -> [u8; 16]
 }
 
 // A register that a single byte shows.
+#[tactic(auto, using(base::specs::Pick::picks, base::specs::Pick::judges), unfolding(crate::specs::Shown::register))]
 fn register(d: Device, v: u8) -> u8
     ensures { result ≡ register d v }
 {
@@ -109,6 +115,7 @@ fn time_tag(time: u16) -> [u8; 16]
     two((time / 256) as u8, (time % 256) as u8)
 }
 
+#[tactic(auto, using(base::specs::Pick::picks, base::specs::Pick::judges), unfolding(crate::specs::Shown::shows))]
 pub fn shows(d: Device, v: u8, k: u8) -> [u8; 16]
     ensures { result ≡ shows d v k }
 {

@@ -63,6 +63,7 @@ fn extended_header(a: u8, b: u8, c: u8, d: u8, length: u8) -> Header
     }
 }
 
+#[tactic(auto, unfolding(crate::specs::ToSend::header_to_send))]
 fn header_to_send(s: &[u8]) -> Header
     ensures { result ≡ header_to_send s.now }
 {
@@ -80,6 +81,7 @@ fn header_to_send(s: &[u8]) -> Header
 }
 
 // The length has to be the command's for this message, whatever bytes follow its data.
+#[tactic(auto, unfolding(crate::specs::ToSend::right_length))]
 pub fn right_length(s: &[u8]) -> bool
     ensures { result ≡ right_length s.now }
 {
@@ -101,6 +103,7 @@ fn message_in(s: &[u8]) -> ToSend
     ToSend { tag, header, bytes }
 }
 
+#[tactic(auto, unfolding(crate::specs::ToSend::message_of))]
 pub fn message_of(s: &[u8]) -> Reading
     ensures { result ≡ message_of s.now }
 {
@@ -130,6 +133,7 @@ pub fn message_of(s: &[u8]) -> Reading
 }
 
 // A message to send as the transmit FIFO keeps it: Table 5's layout, with the tag for byte 1 and no time yet.
+#[tactic(auto, unfolding(crate::specs::ToSend::stored, frame::specs::Received::received))]
 pub fn stored(m: ToSend) -> [u8; 16]
     ensures { result ≡ stored m }
 {

@@ -10,6 +10,7 @@ use chip::{ALONE, Device, FIRST_IN_FIFO, IDLE, LOOPBACK, MONITOR, NORMAL, Regist
 use counters::Counters;
 use fifo::{Fifo, Message};
 
+#[tactic(auto, using(base::specs::Pick::picks, base::specs::Pick::judges), unfolding(crate::specs::Transmit::sends))]
 fn sends(acting: u8) -> bool
     ensures { result ≡ sends acting }
 {
@@ -17,6 +18,7 @@ fn sends(acting: u8) -> bool
 }
 
 // Whether a message may begin now.
+#[tactic(auto, unfolding(crate::specs::Transmit::can_begin))]
 pub fn can_begin(d: Device) -> bool
     ensures { result ≡ can_begin d }
 {
@@ -27,12 +29,14 @@ pub fn can_begin(d: Device) -> bool
         & !d.counters.busoff
 }
 
+#[tactic(auto, using(base::specs::Pick::picks, base::specs::Pick::judges), unfolding(crate::specs::Transmit::without_tx1m))]
 fn without_tx1m(ctrl1: u8) -> u8
     ensures { result ≡ without_tx1m ctrl1 }
 {
     ctrl1 / 128 * 128 + ctrl1 % 64
 }
 
+#[tactic(auto, using(base::specs::Pick::picks), unfolding(crate::specs::Transmit::ctrl1_begun))]
 fn ctrl1_begun(ctrl1: u8) -> u8
     ensures { result ≡ ctrl1_begun ctrl1 }
 {
@@ -44,6 +48,7 @@ fn ctrl1_begun(ctrl1: u8) -> u8
 }
 
 // The first message of the FIFO is copied to the transmit buffer and runs.
+#[tactic(auto, unfolding(crate::specs::Transmit::begun))]
 pub fn begun(d: Device) -> Device
     ensures { result ≡ begun d }
 {
@@ -58,6 +63,7 @@ pub fn begun(d: Device) -> Device
 }
 
 // The running message ends unsent: it stays first in the FIFO, and is gone if 0x54 took it out.
+#[tactic(auto, using(base::specs::Pick::picks, base::specs::Pick::judges), unfolding(crate::specs::Transmit::stopped))]
 pub fn stopped(d: Device) -> Device
     ensures { result ≡ stopped d }
 {
@@ -75,6 +81,7 @@ fn disabled(regs: Registers) -> Registers
 }
 
 // 0x52.
+#[tactic(auto, unfolding(crate::specs::Transmit::aborted))]
 pub fn aborted(d: Device) -> Device
     ensures { result ≡ aborted d }
 {
@@ -84,6 +91,7 @@ pub fn aborted(d: Device) -> Device
     stopped(e)
 }
 
+#[tactic(auto, using(base::specs::Pick::picks, base::specs::Pick::judges), unfolding(crate::specs::Transmit::left_alone))]
 fn left_alone(sending: u8) -> u8
     ensures { result ≡ left_alone sending }
 {
@@ -91,6 +99,7 @@ fn left_alone(sending: u8) -> u8
 }
 
 // 0x54.
+#[tactic(auto, unfolding(crate::specs::Transmit::cleared))]
 pub fn cleared(d: Device) -> Device
     ensures { result ≡ cleared d }
 {
@@ -105,6 +114,7 @@ pub fn cleared(d: Device) -> Device
 }
 
 // A sent message with the time of its completion.
+#[tactic(auto, unfolding(crate::specs::Transmit::stamped))]
 fn stamped(m: Message, time: u16) -> Message
     ensures { result ≡ stamped m time }
 {
@@ -114,6 +124,7 @@ fn stamped(m: Message, time: u16) -> Message
     Message { bytes }
 }
 
+#[tactic(auto, using(base::specs::Pick::picks, base::specs::Pick::judges), unfolding(crate::specs::Transmit::fifo_after))]
 fn fifo_after(tx: Fifo, sending: u8) -> Fifo
     ensures { result ≡ fifo_after tx sending }
 {
@@ -124,6 +135,7 @@ fn fifo_after(tx: Fifo, sending: u8) -> Fifo
     }
 }
 
+#[tactic(auto, using(base::specs::Pick::picks, base::specs::Pick::judges), unfolding(crate::specs::Transmit::counted_completion))]
 fn counted_completion(c: Counters, acting: u8) -> Counters
     ensures { result ≡ counted_completion c acting }
 {
@@ -135,6 +147,7 @@ fn counted_completion(c: Counters, acting: u8) -> Counters
 }
 
 // The running message is sent.
+#[tactic(auto, unfolding(crate::specs::Transmit::transmitted))]
 pub fn transmitted(d: Device) -> Device
     ensures { result ≡ transmitted d }
 {

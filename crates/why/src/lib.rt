@@ -56,6 +56,7 @@ fn no_place() -> Place
 }
 
 // The first counted bit at which a filter differs.
+#[tactic(auto, using(base::specs::Pick::picks), unfolding(crate::specs::Why::first_place))]
 fn first_place(vector: [u8; 6], filter: [u8; 6], mask: [u8; 6]) -> Place
     ensures { result ≡ first_place vector filter mask }
 {
@@ -72,6 +73,7 @@ fn first_place(vector: [u8; 6], filter: [u8; 6], mask: [u8; 6]) -> Place
     }
 }
 
+#[tactic(auto, unfolding(crate::specs::Why::places))]
 fn places(d: Device, h: Header, payload: [u8; 8]) -> [Place; 8]
     ensures { result ≡ places d h payload }
 {
@@ -92,6 +94,7 @@ fn places(d: Device, h: Header, payload: [u8; 8]) -> [Place; 8]
     ]
 }
 
+#[tactic(auto, using(base::specs::Pick::picks, base::specs::Pick::judges), unfolding(crate::specs::Why::is_a4))]
 fn is_a4(what: Arrival) -> bool
     ensures { result ≡ is_a4 what }
 {
@@ -106,6 +109,7 @@ fn is_a4(what: Arrival) -> bool
 }
 
 // Whether the filters are the reason.
+#[tactic(auto, unfolding(crate::specs::Why::no_filter))]
 fn no_filter(a: Answer) -> bool
     ensures { result ≡ no_filter a }
 {
@@ -117,6 +121,7 @@ fn no_filter(a: Answer) -> bool
 }
 
 // What a good frame would be answered, and why no filter lets it pass.
+#[tactic(auto, unfolding(crate::specs::Why::explained))]
 pub fn explained(d: Device, h: Header, acknowledged: bool, given: usize, payload: [u8; 8]) -> Why
     ensures { result ≡ explained d h acknowledged given payload }
 {
@@ -131,6 +136,7 @@ pub fn explained(d: Device, h: Header, acknowledged: bool, given: usize, payload
 }
 
 // Table 4a, by the number of a place from bit 7 of byte 1 on.
+#[tactic(auto, using(base::specs::Pick::picks), unfolding(crate::specs::Fields::field_of))]
 fn field_of(place: u8) -> Field
     ensures { result ≡ field_of place }
 {
@@ -152,6 +158,7 @@ fn field_of(place: u8) -> Field
 }
 
 // The field of a frame that stands at a place.
+#[tactic(auto, using(base::specs::Pick::picks), unfolding(crate::specs::Fields::field_at))]
 pub fn field_at(byte: u8, bit: u8) -> Field
     ensures { result ≡ field_at byte bit }
 {
