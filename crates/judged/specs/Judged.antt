@@ -87,7 +87,7 @@ no_number_left d a = gives_number a && spent d
 unfoldable pub bus_frame : Header → Bool → List ℕ → Brought
 bus_frame h acknowledged bytes = record {
   comes = true;
-  own_val = false;
+  own = false;
   acknowledged = acknowledged;
   header = h;
   payload = bytes;
@@ -96,7 +96,7 @@ bus_frame h acknowledged bytes = record {
 unfoldable pub nothing : Brought
 nothing = record {
   comes = false;
-  own_val = false;
+  own = false;
   acknowledged = false;
   header = record { id = 0; extended = false; remote = false; code = 0 };
   payload = replicate 8 0;

@@ -90,7 +90,7 @@ own_data d = data_in d.buffer.bytes
 unfoldable pub own_frame : Device → Brought
 own_frame d = record {
   comes = eqb d.acting loopback;
-  own_val = true;
+  own = true;
   acknowledged = true;
   header = own_header d;
   payload = own_data d;
