@@ -78,7 +78,6 @@ pub fn data_fits(h: Header, given: usize) -> bool
 }
 
 // Byte k of a frame's data, from 0.
-#[tactic(auto, using(base::specs::Pick::picks, base::specs::Pick::judges))]
 fn data_byte(h: Header, payload: [u8; 8], k: usize) -> u8
     ensures { result ≡ get_or (data_of h payload) k 0 }
 {
