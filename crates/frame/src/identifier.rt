@@ -6,7 +6,7 @@ ghost use Rattle.frame.specs.Tables.{id_bits};
 use crate::{EXTENDED, Header, ID18, STANDARD};
 
 // ID28 to ID0, as the tables number the bits of both kinds.
-#[tactic(auto, using(base::specs::Pick::picks), unfolding(crate::specs::Tables::id_bits))]
+#[tactic(auto, unfolding(crate::specs::Tables::id_bits))]
 fn id_bits(h: Header) -> u32
     ensures { result ≡ id_bits h }
 {

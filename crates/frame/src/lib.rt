@@ -43,7 +43,7 @@ const ID15: u32 = 32768;
 const ID7: u32 = 128;
 
 // How many data bytes a length code means. No frame has a code above 15; the rule's eight is said of those too.
-#[tactic(auto, using(base::specs::Pick::picks), unfolding(crate::specs::Length::data_length))]
+#[tactic(auto, unfolding(crate::specs::Length::data_length))]
 pub fn data_length(code: u8) -> usize
     ensures { result ≡ data_length code }
 {
@@ -51,7 +51,7 @@ pub fn data_length(code: u8) -> usize
 }
 
 // How many data bytes a frame with this header has.
-#[tactic(auto, using(base::specs::Pick::picks), unfolding(crate::specs::Length::data_bytes))]
+#[tactic(auto, unfolding(crate::specs::Length::data_bytes))]
 pub fn data_bytes(h: Header) -> usize
     ensures { result ≡ data_bytes h }
 {
@@ -146,7 +146,6 @@ pub fn compared(h: Header, payload: [u8; 8]) -> [u8; 6]
 }
 
 // A received message: Table 5, all sixteen bytes.
-#[tactic(auto, unfolding(crate::specs::Received::received, crate::specs::Tables::id_as_read))]
 pub fn received(h: Header, payload: [u8; 8], time: u16, filhit: u8) -> [u8; 16]
     ensures { result ≡ received h payload time filhit }
 {

@@ -16,7 +16,7 @@ pub struct Data {
 }
 
 // One byte more, as long as there are fewer than sixteen.
-#[tactic(auto, using(base::specs::Pick::picks), unfolding(crate::specs::Data::keep_of))]
+#[tactic(auto, unfolding(crate::specs::Data::keep_of))]
 fn keep(d: Data, b: u8) -> Data
     ensures { result ≡ keep_of d b }
 {

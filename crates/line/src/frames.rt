@@ -22,7 +22,6 @@ pub enum For {
     Question,
 }
 
-#[tactic(auto, unfolding(crate::specs::Request::frame_data))]
 fn frame_data(header: Header, acked: bool, s: &[u8], at: usize) -> Line
     requires { at ≤ length s.now }
     ensures { result ≡ frame_data header acked (words_of (drop at s.now)) }
@@ -47,7 +46,6 @@ fn frame_ack(header: Header, s: &[u8], at: usize) -> Line
     }
 }
 
-#[tactic(auto, unfolding(crate::specs::Request::hits_data))]
 fn hits_data(header: Header, s: &[u8], at: usize) -> Line
     requires { at ≤ length s.now }
     ensures { result ≡ hits_data header (words_of (drop at s.now)) }

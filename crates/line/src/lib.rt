@@ -64,7 +64,6 @@ pub struct Line {
 }
 
 // What a line asks for; s has no newline.
-#[tactic(auto, unfolding(crate::specs::Request::read_line))]
 pub fn read_line(s: &[u8]) -> Line
     ensures { result ≡ read_line s.now }
 {

@@ -10,7 +10,6 @@ use crate::numbers::{capped, is_number};
 use crate::words::is;
 use crate::{Asked, Expected, Line};
 
-#[tactic(auto, unfolding(crate::specs::Request::transfer_of))]
 pub(crate) fn transfer(lent: u8, s: &[u8], at: usize) -> Line
     requires { at ≤ length s.now }
     ensures { result ≡ transfer_of lent (words_of (drop at s.now)) }

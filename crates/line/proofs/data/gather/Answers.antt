@@ -1,0 +1,6 @@
+-- `line::data::gather` meets its contract: to begin with, no data and all the words. Assumes nothing.
+use Rattle.line.proofs.Gathering.{gathered_all}
+use Rattle.line.proofs.data.gather.Goals as goal
+
+pub loop-d-init : goal.loop-d-init
+loop-d-init c = (c.requires, gathered_all _)
