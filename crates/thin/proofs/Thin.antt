@@ -1,8 +1,8 @@
--- The law: a thin function `*c = rule(*c);` meets `now c.exit ≡ f (now c.entry)` where its rule meets `r ≡ f c`.
+-- The law: a thin function `*c = rule(*c);` meets `c.new ≡ f c.old` where its rule meets `result ≡ f c`.
 -- A function's own proof hands over its names, its code's facts and the rule's theorem. Assumes nothing.
 use mathlib.Core.Path.{◌≡◌}
 use seplogic.Ra.Ura.{Ura}
-use mir.Syntax.{Name}
+use mir.Syntax.{Callee}
 use prog.Model.{Model}
 use prog.Routine.{Routine, Env}
 use prog.Wp.{Closed}
@@ -18,7 +18,7 @@ use Rattle.thin.proofs.Walk.{meets}
 module _ (T : Declared) (L : LL.Laws T) (f : T.D → T.D) {M : Type 1} {𝓤 : Ura M} (𝓛 : Logic 𝓤) (𝓜 : Model 𝓤 𝓛.H) (𝓡 : Running 𝓤 𝓛.H 𝓜) where
   open 𝓛 use {H}
 
-  pub thin-spec : (self rule : Name) (env : Env) → Closed 𝓤 H (tables 𝓤 H 𝓜 𝓡 env).C (tables 𝓤 H 𝓜 𝓡 env).Λ self (thin T rule)
+  pub thin-spec : (self rule : Callee) (env : Env) → Closed 𝓤 H (tables 𝓤 H 𝓜 𝓡 env).C (tables 𝓤 H 𝓜 𝓡 env).Λ self (thin T rule)
       → (r : Routine) → env rule ≡ r → Triple 𝓤 (𝓡.run r) (Rule T f 𝓛)
       → Triple 𝓤 ((tables 𝓤 H 𝓜 𝓡 env).C self) (Thin T f 𝓛)
   unfolding tables_of

@@ -3,8 +3,8 @@ use mathlib.Core.Path.{◌≡◌, refl}
 use Prim.Native.Nat.{ℕ}
 use mathlib.Core.List.{[], ◌∷◌, List}
 use seplogic.Ra.Ura.{Ura}
-use seplogic.Ra.TreeShare.{full_share}
-use mir.Syntax.{Name, named}
+use base.Fraction.{full_share}
+use mir.Syntax.{Callee, named}
 use mir.Val.{Val, vunit, vptr}
 use base.Logic.{SProp, ent, sep, emp, via, fst∗, snd∗, ex_e, id⊢}
 use base.Fml.{GName, Lft, Share, ftrue, flft, fobs, fbor}
@@ -69,10 +69,10 @@ module _ (T : Declared) (L : LL.Laws T) (f : T.D → T.D) {M : Type 1} {𝓤 : U
     abbrev to_rule : (Rule T f 𝓛).Ghost
     to_rule = ((tt, tt, tt, (h, tt), (mach ∷ [], tt)), tt)
 
-    goes_rule : ent 𝓤 (sem 𝓛 ((row T).own h (mach ∷ []))) ((Rule T f 𝓛).pre to_rule)
-    goes_rule = qed 𝓛 (‵ ((row T).own h (mach ∷ [])) ∷ []) ∵ nothing ! $ move ! (1 ∷ 0 ∷ []) $ join ! $ nothing ! $ join ! $ frame ! $ done !
+    goes_rule : ent 𝓤 (sem 𝓛 ((row T).own_val h (mach ∷ []))) ((Rule T f 𝓛).pre to_rule)
+    goes_rule = qed 𝓛 (‵ ((row T).own_val h (mach ∷ [])) ∷ []) ∵ nothing ! $ move ! (1 ∷ 0 ∷ []) $ join ! $ nothing ! $ join ! $ frame ! $ done !
 
-    module _ (C : Calls 𝓤 H) (Λ : Loops 𝓤 H) (fm : FmC 𝓤 H 𝓛.laws C) (rule : Name) (known : Triple 𝓤 (C rule) (Rule T f 𝓛)) where
+    module _ (C : Calls 𝓤 H) (Λ : Loops 𝓤 H) (fm : FmC 𝓤 H 𝓛.laws C) (rule : Callee) (known : Triple 𝓤 (C rule) (Rule T f 𝓛)) where
       walk : ent 𝓤 (on_entry 𝓛 (thin_ended T).signature (κ, tt) (q, tt) x at) (WpFn 𝓤 H C Λ (thin T rule) (vptr b o ∷ []) Post)
       walk =
           qed 𝓛 ((‵ (flft κ q) ⊛ ‵ ftrue) ∷ ‵ (owns (MutRef (named 0) κ (row T) ∷ []) x at) ∷ []) ∵
@@ -91,7 +91,7 @@ module _ (T : Declared) (L : LL.Laws T) (f : T.D → T.D) {M : Type 1} {𝓤 : U
           -- the rule's call, and what it ensures
           use1 𝓛 (raw ((Rule T f 𝓛).pre to_rule)) goes_rule $
           calls_at ! fm (Rule T f 𝓛) known to_rule (and_then ! (load ! (from ! (stop !)) (look ! 5 refl)) (no_more !)) (λ v.
-          use1 𝓛 (later (some (λ (r : T.D). (‵ ftrue ⊛ ‵ ((row T).own r (v ∷ []))) ⊛ raw (ensured 𝓛 (rule_ended T) (rule_clauses T f 𝓤) tt (h, tt) tt r)))) (id⊢ 𝓤 _) $
+          use1 𝓛 (later (some (λ (r : T.D). (‵ ftrue ⊛ ‵ ((row T).own_val r (v ∷ []))) ⊛ raw (ensured 𝓛 (rule_ended T) (rule_clauses T f 𝓤) tt (h, tt) tt r)))) (id⊢ 𝓤 _) $
           await ! tt $ pick ! (λ r.
           split ! $ move ! (1 ∷ []) $ use1 𝓛 (raw (fact 𝓤 (r ≡ f h))) (made_of h r) $ heard ! (r ≡ f h) (λ e. split ! $ drop ! $
           peeks ! (row T) (Is (row T)) (shows 𝓛 (row T)) r (v ∷ []) (λ is'.
@@ -105,7 +105,7 @@ module _ (T : Declared) (L : LL.Laws T) (f : T.D → T.D) {M : Type 1} {𝓤 : U
           move ! (9 ∷ 10 ∷ []) $ free1 ! $ move ! (7 ∷ 8 ∷ []) $ free1 ! $ move ! (5 ∷ 6 ∷ []) $ free1 ! $ move ! (3 ∷ 4 ∷ []) $ free1 ! $ free0 ! $
           keep ! (0 ∷ 1 ∷ 2 ∷ []) $ by ! (exits r e)))))))))))
 
-  walks : (C : Calls 𝓤 H) (Λ : Loops 𝓤 H) → FmC 𝓤 H 𝓛.laws C → (rule : Name) → Triple 𝓤 (C rule) (Rule T f 𝓛)
+  walks : (C : Calls 𝓤 H) (Λ : Loops 𝓤 H) → FmC 𝓤 H 𝓛.laws C → (rule : Callee) → Triple 𝓤 (C rule) (Rule T f 𝓛)
       → Walks 𝓛 (thin_ended T) (stayed T) (WpFn 𝓤 H C Λ (thin T rule)) (thin_clauses T f 𝓤)
   walks C Λ fm rule known =
       walked 𝓛 (thin_ended T) (stayed T) (thin_clauses T f 𝓤) (WpFn 𝓤 H C Λ (thin T rule)) (λ κs. (mut_vals, tt))
@@ -113,7 +113,7 @@ module _ (T : Declared) (L : LL.Laws T) (f : T.D → T.D) {M : Type 1} {𝓤 : U
       (λ κs qs bounds a _ _.
       via 𝓤 _ (fst∗ 𝓤 _ (emp 𝓤)) (walk κs.0 qs.0 a.0.ref_ptr.0 a.0.ref_ptr.1 a.0.ghost_name a.0.now C Λ fm rule known))
 
-  pub meets : (𝓣 : Tables 𝓤 H) (rule : Name) → Triple 𝓤 (𝓣.C rule) (Rule T f 𝓛)
+  pub meets : (𝓣 : Tables 𝓤 H) (rule : Callee) → Triple 𝓤 (𝓣.C rule) (Rule T f 𝓛)
       → Meets 𝓛 (thin_ended T).signature (WpFn 𝓤 H 𝓣.C 𝓣.Λ (thin T rule)) (closing 𝓛 (thin_ended T) (thin_clauses T f 𝓤))
   meets 𝓣 rule known =
       walk_Meets 𝓛 (thin_ended T) (stayed T) (Goes-ref 𝓛 1 0 tt (plain (λ _. row T)), tt) (thin_clauses T f 𝓤)

@@ -1,11 +1,11 @@
 -- A thin function over a struct behind a reference, and the rule by value that it calls: what each is and what each
 -- states. `T` is any struct of plain data and `f` any function on its values.
 --
---     fn rule(c: T) -> T      ensures { λ r. ⌜ r ≡ f c ⌝ }
---     fn thin(c: &mut T)      ensures { λ _. ⌜ now c.exit ≡ f (now c.entry) ⌝ }      { *c = rule(*c); }
+--     fn rule(c: T) -> T      ensures { result ≡ f c }
+--     fn thin(c: &mut T)      ensures { c.new ≡ f c.old }      { *c = rule(*c); }
 use Rattle.std.specs.Prelude.{◌≡◌, [], ◌∷◌}
 use seplogic.Ra.Ura.{Ura}
-use mir.Syntax.{Name, ty_unit, ty_ref, mut, named, deref, place, copy, opd_unit, rv_opd, seq, assign, call, return, local, value_local, Fn}
+use mir.Syntax.{Callee, ty_unit, ty_ref, mut, named, deref, place, copy, opd_unit, rv_opd, seq, assign, call, return, local, value_local, Fn}
 use base.Logic.{emp}
 use types.Logic.{Logic}
 use contract.Monad.{fact}
@@ -54,10 +54,12 @@ module _ (T : Declared) where
   Thin f {𝓤 = 𝓤} 𝓛 = triple_of 𝓛 thin_ended.signature (closing 𝓛 thin_ended (thin_clauses f 𝓤))
 
   -- its code: a copy of the struct, the call, the result stored
-  abbrev pub thin : Name → Fn
+  abbrev pub thin : Callee → Fn
   thin rule = record {
     lifetimes = 1;
     outlives = [];
+    ty_params = [];
+    givens = 0;
     params = 1;
     locals =
         local ty_unit value_local ∷
