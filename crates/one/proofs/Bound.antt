@@ -7,7 +7,7 @@ use package.base.Logic.{SProp, emp, sep, ent, id⊢, via, ex_i, emp∗, mono∗}
 use contract.Monad.{fact, fact_i}
 use denote.Triple.Clauses.{Lasts, closing}
 use borrow.Fn.World.{World}
-use Rattle.base.proofs as base
+use Rattle.base.specs.contracts as base
 use Rattle.one.specs.Law.{Inputs, Stated, Satisfies, OneResult, only-result}
 
 -- `flag`'s signature, and of its contract the bound alone
@@ -23,7 +23,7 @@ on = (tt, (true, tt))
 
 module _ (w : World) where
   abbrev ensured : ℕ → SProp w.𝓤
-  ensured r = (bound w.M w.𝓤 w.𝓛 w.𝓜.mem w.𝓡.run on.0 on.1).ensures tt r
+  ensured r = (bound w.M w.𝓤 w.𝓛 w.𝓜.mem w.𝓡.returns on.0 on.1).ensures tt r
 
   holds : (r : ℕ) → r ≤ 1 → ent w.𝓤 (emp w.𝓤) (ensured r)
   holds r h =
@@ -36,7 +36,7 @@ module _ (w : World) where
 
   satisfies : (r : ℕ) → r ≤ 1 → Satisfies w.M base.flag.ended (bound w.M) on r
   satisfies r h = record {
-    model = record { 𝓤 = w.𝓤; H = w.𝓛.H; A = w.𝓛.A; mem = w.𝓜.mem; run = w.𝓡.run };
+    model = record { 𝓤 = w.𝓤; 𝓛 = w.𝓛; mem = w.𝓜.mem; run = w.𝓡.returns };
     ghost = tt;
     resource = w.𝓤.one;
     holds = (holds r h).apply w.𝓤.one tt;

@@ -1,9 +1,9 @@
 -- One result for each public function of base, commands, frame, to_send and filter. The first line of each names the
--- contract that the function's theorem states, the second the definition that it equates the result or the lent
--- memory with, as a function of the parameters (`λ _` passes over the lifetimes). `Law` says what it is to leave one
--- result.
+-- contract that the function's theorem states (`λ _` passes over the model's resources), the second the definition that
+-- it equates the result or the lent memory with, as a function of the parameters (`λ _` passes over the lifetimes).
+-- `Law` says what it is to leave one result.
 use Rattle.std.specs.Prelude.{refl, ◌≤◌, get_or}
-use package.base.Stored.{coded_list, coded_ℕ}
+use Rattle.std.specs.Coded.{coded_list, coded_ℕ}
 use Rattle.base.specs.Pick
 use Rattle.base.specs.Put
 use Rattle.commands.specs.Table
@@ -14,90 +14,90 @@ use Rattle.to_send.specs.ToSend
 use Rattle.filter.specs.Match
 use Rattle.filter.specs.Hits
 use Rattle.filter.specs.First
-use Rattle.base.proofs as base
-use Rattle.commands.proofs as commands
-use Rattle.frame.proofs as frame
-use Rattle.to_send.proofs as to_send
-use Rattle.filter.proofs as filter
+use Rattle.base.specs.contracts as base
+use Rattle.commands.specs.contracts as commands
+use Rattle.frame.specs.contracts as frame
+use Rattle.to_send.specs.contracts as to_send
+use Rattle.filter.specs.contracts as filter
 use Rattle.one.specs.Law.{OneResult}
 use Rattle.one.specs.Shapes.{result, result_and, content}
 
 module _ (M : Type 1) where
   -- ---- base
-  pub base-flag : OneResult M base.flag.ended base.flag.spec
-  base-flag = result_and base.flag.clauses (λ _. Pick.flag) (λ _ r. r ≤ 1) refl
+  pub base-flag : OneResult M base.flag.ended (λ _. base.flag.spec)
+  base-flag = result_and (λ _. base.flag.clauses) (λ _. Pick.flag) (λ _ r. r ≤ 1) refl
 
-  pub base-at : OneResult M base.at.ended base.at.spec
-  base-at = result base.at.clauses (λ _ s i. get_or s.now i 0) refl
+  pub base-at : OneResult M base.at.ended (λ _. base.at.spec)
+  base-at = result (λ _. base.at.clauses) (λ _ s i. get_or s.now i 0) refl
 
-  pub base-put : OneResult M base.put.ended base.put.spec
+  pub base-put : OneResult M base.put.ended (λ _. base.put.spec)
   base-put =
-      content base.put.clauses (coded_list coded_ℕ) (λ _ w. w.1.0) (λ _ v. (tt, (v, tt)))
+      content (λ _. base.put.clauses) (coded_list coded_ℕ) (λ _ w. w.1.0) (λ _ v. (tt, (v, tt)))
       (λ _ reply buffer. Put.put_of reply.now buffer.now) refl
 
   -- ---- commands
-  pub commands-find : OneResult M commands.find.ended commands.find.spec
-  commands-find = result commands.find.clauses (λ _. Table.lookup Table.rows) refl
+  pub commands-find : OneResult M commands.find.ended (λ _. commands.find.spec)
+  commands-find = result (λ _. commands.find.clauses) (λ _. Table.lookup Table.rows) refl
 
   -- ---- frame
-  pub frame-data_length : OneResult M frame.data_length.ended frame.data_length.spec
-  frame-data_length = result frame.data_length.clauses (λ _. Length.data_length) refl
+  pub frame-data_length : OneResult M frame.data_length.ended (λ _. frame.data_length.spec)
+  frame-data_length = result (λ _. frame.data_length.clauses) (λ _. Length.data_length) refl
 
-  pub frame-data_bytes : OneResult M frame.data_bytes.ended frame.data_bytes.spec
-  frame-data_bytes = result frame.data_bytes.clauses (λ _. Length.data_bytes) refl
+  pub frame-data_bytes : OneResult M frame.data_bytes.ended (λ _. frame.data_bytes.spec)
+  frame-data_bytes = result (λ _. frame.data_bytes.clauses) (λ _. Length.data_bytes) refl
 
-  pub frame-possible : OneResult M frame.possible.ended frame.possible.spec
-  frame-possible = result frame.possible.clauses (λ _. Length.possible) refl
+  pub frame-possible : OneResult M frame.possible.ended (λ _. frame.possible.spec)
+  frame-possible = result (λ _. frame.possible.clauses) (λ _. Length.possible) refl
 
-  pub frame-data_fits : OneResult M frame.data_fits.ended frame.data_fits.spec
-  frame-data_fits = result frame.data_fits.clauses (λ _. Length.data_fits) refl
+  pub frame-data_fits : OneResult M frame.data_fits.ended (λ _. frame.data_fits.spec)
+  frame-data_fits = result (λ _. frame.data_fits.clauses) (λ _. Length.data_fits) refl
 
-  pub frame-id_to_send : OneResult M frame.id_to_send.ended frame.id_to_send.spec
-  frame-id_to_send = result frame.id_to_send.clauses (λ _. Tables.id_to_send) refl
+  pub frame-id_to_send : OneResult M frame.id_to_send.ended (λ _. frame.id_to_send.spec)
+  frame-id_to_send = result (λ _. frame.id_to_send.clauses) (λ _. Tables.id_to_send) refl
 
-  pub frame-id_as_read : OneResult M frame.id_as_read.ended frame.id_as_read.spec
-  frame-id_as_read = result frame.id_as_read.clauses (λ _. Tables.id_as_read) refl
+  pub frame-id_as_read : OneResult M frame.id_as_read.ended (λ _. frame.id_as_read.spec)
+  frame-id_as_read = result (λ _. frame.id_as_read.clauses) (λ _. Tables.id_as_read) refl
 
-  pub frame-compared : OneResult M frame.compared.ended frame.compared.spec
-  frame-compared = result frame.compared.clauses (λ _. Tables.compared) refl
+  pub frame-compared : OneResult M frame.compared.ended (λ _. frame.compared.spec)
+  frame-compared = result (λ _. frame.compared.clauses) (λ _. Tables.compared) refl
 
-  pub frame-received : OneResult M frame.received.ended frame.received.spec
-  frame-received = result frame.received.clauses (λ _. Received.received) refl
+  pub frame-received : OneResult M frame.received.ended (λ _. frame.received.spec)
+  frame-received = result (λ _. frame.received.clauses) (λ _. Received.received) refl
 
-  pub frame-id_from : OneResult M frame.id_from.ended frame.id_from.spec
-  frame-id_from = result frame.id_from.clauses (λ _. Tables.id_from) refl
+  pub frame-id_from : OneResult M frame.id_from.ended (λ _. frame.id_from.spec)
+  frame-id_from = result (λ _. frame.id_from.clauses) (λ _. Tables.id_from) refl
 
-  pub frame-header_in : OneResult M frame.header_in.ended frame.header_in.spec
-  frame-header_in = result frame.header_in.clauses (λ _. Received.header_in) refl
+  pub frame-header_in : OneResult M frame.header_in.ended (λ _. frame.header_in.spec)
+  frame-header_in = result (λ _. frame.header_in.clauses) (λ _. Received.header_in) refl
 
-  pub frame-data_in : OneResult M frame.data_in.ended frame.data_in.spec
-  frame-data_in = result frame.data_in.clauses (λ _. Received.data_in) refl
+  pub frame-data_in : OneResult M frame.data_in.ended (λ _. frame.data_in.spec)
+  frame-data_in = result (λ _. frame.data_in.clauses) (λ _. Received.data_in) refl
 
   -- ---- to_send
-  pub to_send-right_length : OneResult M to_send.right_length.ended to_send.right_length.spec
-  to_send-right_length = result to_send.right_length.clauses (λ _ s. ToSend.right_length s.now) refl
+  pub to_send-right_length : OneResult M to_send.right_length.ended (λ _. to_send.right_length.spec)
+  to_send-right_length = result (λ _. to_send.right_length.clauses) (λ _ s. ToSend.right_length s.now) refl
 
-  pub to_send-message_of : OneResult M to_send.message_of.ended to_send.message_of.spec
-  to_send-message_of = result to_send.message_of.clauses (λ _ s. ToSend.message_of s.now) refl
+  pub to_send-message_of : OneResult M to_send.message_of.ended (λ _. to_send.message_of.spec)
+  to_send-message_of = result (λ _. to_send.message_of.clauses) (λ _ s. ToSend.message_of s.now) refl
 
-  pub to_send-stored : OneResult M to_send.stored.ended to_send.stored.spec
-  to_send-stored = result to_send.stored.clauses (λ _. ToSend.stored) refl
+  pub to_send-stored : OneResult M to_send.stored.ended (λ _. to_send.stored.spec)
+  to_send-stored = result (λ _. to_send.stored.clauses) (λ _. ToSend.stored) refl
 
   -- ---- filter
-  pub filter-matches : OneResult M filter.matches.ended filter.matches.spec
-  filter-matches = result filter.matches.clauses (λ _. Match.matches) refl
+  pub filter-matches : OneResult M filter.matches.ended (λ _. filter.matches.spec)
+  filter-matches = result (λ _. filter.matches.clauses) (λ _. Match.matches) refl
 
-  pub filter-hits : OneResult M filter.hits.ended filter.hits.spec
-  filter-hits = result filter.hits.clauses (λ _. Hits.hits) refl
+  pub filter-hits : OneResult M filter.hits.ended (λ _. filter.hits.spec)
+  filter-hits = result (λ _. filter.hits.clauses) (λ _. Hits.hits) refl
 
-  pub filter-filhit : OneResult M filter.filhit.ended filter.filhit.spec
-  filter-filhit = result filter.filhit.clauses (λ _. Hits.filhit) refl
+  pub filter-filhit : OneResult M filter.filhit.ended (λ _. filter.filhit.spec)
+  filter-filhit = result (λ _. filter.filhit.clauses) (λ _. Hits.filhit) refl
 
-  pub filter-how_many : OneResult M filter.how_many.ended filter.how_many.spec
-  filter-how_many = result filter.how_many.clauses (λ _. Hits.how_many) refl
+  pub filter-how_many : OneResult M filter.how_many.ended (λ _. filter.how_many.spec)
+  filter-how_many = result (λ _. filter.how_many.clauses) (λ _. Hits.how_many) refl
 
-  pub filter-bit_at : OneResult M filter.bit_at.ended filter.bit_at.spec
-  filter-bit_at = result filter.bit_at.clauses (λ _. Match.bit_at_place) refl
+  pub filter-bit_at : OneResult M filter.bit_at.ended (λ _. filter.bit_at.spec)
+  filter-bit_at = result (λ _. filter.bit_at.clauses) (λ _. Match.bit_at_place) refl
 
-  pub filter-first_difference : OneResult M filter.first_difference.ended filter.first_difference.spec
-  filter-first_difference = result filter.first_difference.clauses (λ _. First.first_difference) refl
+  pub filter-first_difference : OneResult M filter.first_difference.ended (λ _. filter.first_difference.spec)
+  filter-first_difference = result (λ _. filter.first_difference.clauses) (λ _. First.first_difference) refl

@@ -8,8 +8,7 @@ use base.Logic.{SProp, emp, ent, snd∗}
 use base.Stored.{Coded, Coded-set}
 use prog.Memory.{Memory}
 use prog.Routine.{Routine}
-use ghost.Atoms.{meaning}
-use types.Logic.{Logic}
+use types.Logic.{Logic, sem}
 use contract.Monad.{Fun, fact}
 use contract.Lifetimes.{Lfts}
 use denote.Signature.{type_at}
@@ -53,13 +52,13 @@ module _ (M : Type 1) where
     Written = InModels (λ 𝓤. Clauses 𝓤 T)
 
     abbrev pub stated : Stated → (m : Model) → Spec m.𝓤 T.signature
-    stated s m = s m m.mem m.run
+    stated s m = s m.𝓤 m.𝓛 m.mem m.run
 
     abbrev pub written : Written → (m : Model) → Clauses m.𝓤 T
-    written c m = c m m.mem m.run
+    written c m = c m.𝓤 m.𝓛 m.mem m.run
 
     abbrev pub made_of : Written → (m : Model) → Spec m.𝓤 T.signature
-    made_of c m = closing m T (written c m)
+    made_of c m = closing m.𝓛 T (written c m)
 
     abbrev pub Ghost : Written → Model → Inputs T → Type 0
     Ghost c m a = (written c m a.0 a.1).ghost
@@ -120,7 +119,7 @@ allowed {M} {T} {s} c makes a r p = left p.model p.ghost r p.resource p.holds
   where
     -- what is said of a content, beside which the contract has the clauses
     said : (m : Model M) → Left T a → SProp m.𝓤
-    said m v = meaning m (lasts T a.0 a.1 v)
+    said m v = sem m.𝓛 (lasts T a.0 a.1 v)
 
     Leaves : (m : Model M) → Spec m.𝓤 T.signature → Type 2
     Leaves m S =
