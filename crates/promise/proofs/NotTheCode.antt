@@ -20,7 +20,7 @@ use Rattle.bus.specs.Event
 use Rattle.bus.specs.Hits.{hits}
 use Rattle.bus.specs.Numbers.{numbers}
 use Rattle.bus.specs.Pins.{pins}
-use Rattle.bus.proofs as bus
+use Rattle.bus.specs.contracts as bus
 use Rattle.why.specs.Why.{explained}
 use Rattle.one.specs.Law.{Inputs, Model, stated, Satisfies, has_part}
 use Rattle.promise.specs.Sequence.{Input, wire, Step, shipped, values}
@@ -36,7 +36,7 @@ abbrev M : Type 1
 M = w₀.M
 
 abbrev model : Model M
-model = record { 𝓤 = w₀.𝓤; H = w₀.𝓛.H; A = w₀.𝓛.A; mem = w₀.𝓜.mem; run = w₀.𝓡.run }
+model = record { 𝓤 = w₀.𝓤; 𝓛 = w₀.𝓛; mem = w₀.𝓜.mem; run = w₀.𝓡.returns }
 
 abbrev arguments : Inputs bus.event.ended
 arguments = (tt, (fresh, (Ticks 1, (replicate 8 0, tt))))
@@ -44,7 +44,7 @@ arguments = (tt, (fresh, (Ticks 1, (replicate 8 0, tt))))
 abbrev given : Outcome
 given = Event.event fresh (Ticks 1) (replicate 8 0)
 
-ensured : ent model.𝓤 (emp model.𝓤) ((stated M bus.event.ended bus.event.spec model arguments.0 arguments.1).ensures tt given)
+ensured : ent model.𝓤 (emp model.𝓤) ((stated M bus.event.ended (λ _. bus.event.spec) model arguments.0 arguments.1).ensures tt given)
 ensured =
     let u = model.𝓤 in
     let E : SProp u = emp u in
@@ -58,7 +58,7 @@ ensured =
     (via u (sep u (sep u E three) F) (mono∗ u (emp∗ u three) (id⊢ u F))
     (ex_i u {A = Lasts bus.event.ended arguments.0 arguments.1} (λ v. sep u (sep u E three) F) (tt, (tt, (tt, tt))))))))
 
-satisfies : Satisfies M bus.event.ended bus.event.spec arguments given
+satisfies : Satisfies M bus.event.ended (λ _. bus.event.spec) arguments given
 satisfies = record { model = model; ghost = tt; resource = w₀.𝓤.one; holds = ensured.apply w₀.𝓤.one tt }
 
 -- ---- how many values a machine's answer to it has

@@ -7,11 +7,11 @@ use Rattle.chip.specs.declared.Device.{Device}
 use Rattle.bus.specs.declared.types.Hits.{Hits}
 use Rattle.bus.specs.declared.types.Numbers.{Numbers}
 use Rattle.bus.specs.declared.types.Pins.{Pins}
-use Rattle.bus.proofs as bus
-use Rattle.chip.proofs as chip
-use Rattle.host.proofs as host
+use Rattle.bus.specs.contracts as bus
+use Rattle.chip.specs.contracts as chip
+use Rattle.host.specs.contracts as host
 use Rattle.why.specs.declared.Why.{Why}
-use Rattle.why.proofs as why
+use Rattle.why.specs.contracts as why
 use Rattle.one.specs.Law.{Inputs, Outcome, Equates}
 use Rattle.one.specs.Shapes.{at}
 use Rattle.promise.specs.Numbering.{Lister}
@@ -25,7 +25,7 @@ module _ (M : Type 1) (step : Machine) where
   transfer_step a x = record { device = x.0.device; given = replied x.0.number x.1.1.1.0 }
 
   abbrev pub Transfers : Type 2
-  Transfers = Equates M host.transfer.ended host.transfer.spec (λ a. Step) transfer_step
+  Transfers = Equates M host.transfer.ended (λ _. host.transfer.spec) (λ a. Step) transfer_step
       (at host.transfer.ended Step (λ lifetimes d bytes reply. step d (spi bytes.now reply.now)))
 
   -- `bus::event(d, e, payload)`: the device and the answer
@@ -33,42 +33,42 @@ module _ (M : Type 1) (step : Machine) where
   event_step a x = record { device = x.0.device; given = answered x.0.answer }
 
   abbrev pub Events : Type 2
-  Events = Equates M bus.event.ended bus.event.spec (λ a. Step) event_step
+  Events = Equates M bus.event.ended (λ _. bus.event.spec) (λ a. Step) event_step
       (at bus.event.ended Step (λ lifetimes d e payload. step d (wire e payload)))
 
   -- `bus::answer(d, e, payload)`: the answer alone
   abbrev pub Asked : Type 2
-  Asked = Equates M bus.answer.ended bus.answer.spec (λ a. Given) (λ a x. answered x.0)
+  Asked = Equates M bus.answer.ended (λ _. bus.answer.spec) (λ a. Given) (λ a x. answered x.0)
       (at bus.answer.ended Given (λ lifetimes d e payload. (step d (wire e payload)).given))
 
 module _ (M : Type 1) where
   -- `bus::pins(d)`
   abbrev pub Looks : (Device → Pins) → Type 2
   Looks look =
-      Equates M bus.pins.ended bus.pins.spec (λ a. Pins) (λ a x. x.0) (at bus.pins.ended Pins (λ lifetimes d. look d))
+      Equates M bus.pins.ended (λ _. bus.pins.spec) (λ a. Pins) (λ a x. x.0) (at bus.pins.ended Pins (λ lifetimes d. look d))
 
   -- `bus::hits(d, h, given, payload)`
   abbrev pub Tells : Question → Type 2
   Tells ask =
-      Equates M bus.hits.ended bus.hits.spec (λ a. Hits) (λ a x. x.0)
+      Equates M bus.hits.ended (λ _. bus.hits.spec) (λ a. Hits) (λ a x. x.0)
       (at bus.hits.ended Hits (λ lifetimes d h given payload. ask d h given payload))
 
   -- `bus::numbers(d)`
   abbrev pub Lists : Lister → Type 2
   Lists list =
-      Equates M bus.numbers.ended bus.numbers.spec (λ a. Numbers) (λ a x. x.0)
+      Equates M bus.numbers.ended (λ _. bus.numbers.spec) (λ a. Numbers) (λ a x. x.0)
       (at bus.numbers.ended Numbers (λ lifetimes d. list d))
 
   -- `why::explained(d, h, acknowledged, given, payload)`
   abbrev pub Explains : Explainer → Type 2
   Explains explain =
-      Equates M why.explained.ended why.explained.spec (λ a. Why) (λ a x. x.0)
+      Equates M why.explained.ended (λ _. why.explained.spec) (λ a. Why) (λ a x. x.0)
       (at why.explained.ended Why (λ lifetimes d h acknowledged given payload. explain d h acknowledged given payload))
 
   -- `chip::fresh()`
   abbrev pub Begins : Device → Type 2
   Begins first =
-      Equates M chip.fresh.ended chip.fresh.spec (λ a. Device) (λ a x. x.0)
+      Equates M chip.fresh.ended (λ _. chip.fresh.spec) (λ a. Device) (λ a x. x.0)
       (at chip.fresh.ended Device (λ lifetimes. first))
 
 abbrev pub IsTheCode : Machine → (Device → Pins) → Question → Lister → Explainer → Device → Type 2
