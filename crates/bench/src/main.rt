@@ -9,11 +9,15 @@ mod records;
 
 use chip::Device;
 use host::Outcome;
-use libc::{STDIN_FILENO, STDOUT_FILENO};
+use std::io::{Stdout, Write};
+
+// Standard input's number, which is what `io` reads from.
+const STDIN: i32 = 0;
 
 // How many records there are, as far as their results fit.
 fn count(given: usize) -> usize
-    ensures { (result * 20 ≤ given) × (result ≤ 3000) }
+    ensures given { result * 20 ≤ given }
+    ensures most { result ≤ 3000 }
 {
     let n = given / 20;
     if n <= 3000 { n } else { 3000 }
@@ -28,18 +32,15 @@ fn round(d: Device, work: &[u8], results: &mut [u8]) -> Device
         device: d,
         number: 0,
     };
-    let mut i: usize = 0;
-    while i < n {
+    for i in 0..n {
         let from = i * 20;
         let past = from + 20;
         let start = i * 17;
         let end = start + 17;
         if base::at(work, from) == 0 {
             o = records::transfer(o, &work[from..past], &mut results[start..end]);
-            i += 1;
         } else {
             o = records::happens(o, &work[from..past], &mut results[start..end]);
-            i += 1;
         }
     }
     let e = o.device;
@@ -50,38 +51,35 @@ fn rounds(d: Device, n: u32, work: &[u8], results: &mut [u8])
     requires { 51000 ≤ length results.old }
 {
     let mut e = d;
-    let mut i: u32 = 0;
-    while i < n {
+    for _ in 0..n {
         e = round(e, work, results);
-        i += 1;
     }
 }
 
-fn write(results: &[u8], used: usize) {
+fn write(results: &[u8], used: usize, output: &mut Stdout) -> std::io::Result<()> {
     if used <= results.len() {
-        let written = io::write_all(STDOUT_FILENO, &results[..used]);
-        if !written {
-            os::fail(b"standard output");
-        }
+        output.write_all(&results[..used])
+    } else {
+        Ok(())
     }
 }
 
-fn run(input: &[u8], results: &mut [u8])
+fn run(input: &[u8], results: &mut [u8], output: &mut Stdout) -> std::io::Result<()>
     requires { 51000 ≤ length results.old }
 {
     if input.len() < 4 {
-        return;
+        return Ok(());
     }
     let n = records::number(input, 0);
     let work = &input[4..];
     let used = count(work.len()) * 17;
     rounds(chip::fresh(), n, work, results);
-    write(results, used);
+    write(results, used, output)
 }
 
-fn main() {
+fn main(rt: HostRuntime) -> std::io::Result<()> {
     let mut input = io::large_buffer();
     let mut results = io::large_buffer();
-    let got = io::read_full(STDIN_FILENO, &mut input);
-    run(&input[..got], &mut results);
+    let got = io::read_full(STDIN, &mut input);
+    run(&input[..got], &mut results, &mut rt.stdout())
 }

@@ -170,13 +170,11 @@ fn waiting(out: &mut [u8], at: usize, serials: [u64; 8], count: u8) -> usize {
         return raw(out, at, b'-');
     }
     let mut n = decimal(out, at, serials[0]);
-    let mut k: usize = 1;
-    while k < 8 {
+    for k in 1..8 {
         if count as usize <= k {
             return n;
         }
         n = numbered(out, n, b",", serials[k]);
-        k += 1;
     }
     n
 }

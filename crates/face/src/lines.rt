@@ -66,7 +66,8 @@ fn hold(h: Held, b: u8, line: &mut [u8]) -> Held {
 // The bytes from `from` on, up to the end of the line or of the chunk.
 pub(crate) fn gather(h: Held, chunk: &[u8], from: usize, line: &mut [u8]) -> Step
     requires { from < length chunk.now }
-    ensures { (from < result.next) × (result.next ≤ length chunk.now) }
+    ensures moves { from < result.next }
+    ensures within { result.next ≤ length chunk.now }
 {
     let mut held = h;
     let mut i = from;

@@ -12,9 +12,13 @@ mod text;
 
 use chip::Device;
 use explain::Last;
-use libc::{STDIN_FILENO, STDOUT_FILENO};
 use line::Line;
 use lines::Held;
+use std::env::{Env, FillError};
+use std::io::{Read, Stdin};
+
+// Standard output's number, which is what `io` writes to.
+const STDOUT: i32 = 1;
 
 // An answer is shorter than what is left past here.
 const NEARLY_FULL: usize = 65000;
@@ -44,7 +48,7 @@ fn flush(r: Run, out: &[u8]) -> Run {
     let mut e = r;
     e.used = 0;
     if used <= out.len() {
-        e.over = !io::write_all(STDOUT_FILENO, &out[..used]);
+        e.over = !io::write_all(STDOUT, &out[..used]);
     } else {
         e.over = true;
     }
@@ -148,47 +152,50 @@ fn finish(r: Run, line: &[u8], out: &mut [u8]) -> Run {
 }
 
 // Reads once, and answers what came.
-fn turn(r: Run, line: &mut [u8], out: &mut [u8]) -> Run {
+fn turn(r: Run, input: &mut Stdin, line: &mut [u8], out: &mut [u8]) -> std::io::Result<Run> {
     let mut chunk = io::buffer();
-    let got = libc::read(STDIN_FILENO, &mut chunk);
-    if got < 0 {
-        os::fail(b"standard input");
-    }
-    let n = io::count(got, &chunk);
+    let n = input.read(&mut chunk)?;
     if n == 0 {
-        finish(r, line, out)
+        Ok(finish(r, line, out))
     } else {
         let e = feed(r, &chunk[..n], line, out);
         let over = e.over;
-        if over { e } else { flush(e, out) }
+        if over { Ok(e) } else { Ok(flush(e, out)) }
     }
 }
 
-// A proved loop has to end, and nothing says that the input does. So the loop counts its turns down, from a number
-// that no run uses up.
-fn answer_all(r: Run, line: &mut [u8], out: &mut [u8]) {
+// A proved loop has to end, and nothing says that the input does. So the loop counts its turns, up to a number that no
+// run reaches.
+fn answer_all(r: Run, input: &mut Stdin, line: &mut [u8], out: &mut [u8]) -> std::io::Result<()> {
     let mut e = r;
-    let mut turns = u64::MAX;
-    while turns > 0 {
-        e = turn(e, line, out);
+    for _ in 0..u64::MAX {
+        e = turn(e, input, line, out)?;
         if e.over {
-            return;
+            return Ok(());
         }
-        turns -= 1;
+    }
+    Ok(())
+}
+
+// Whether the command has an argument, of any length: the first of them is the program's name.
+fn has_argument(rt: &HostRuntime) -> bool {
+    match rt.arg(1, &mut []) {
+        Err(FillError::NotPresent) => false,
+        _ => true,
     }
 }
 
-fn main() {
+fn main(rt: HostRuntime) -> std::io::Result<()> {
     let mut line = io::large_buffer();
     let mut out = io::large_buffer();
     let r = Run {
         device: chip::fresh(),
-        explains: os::arg_count() > 1,
+        explains: has_argument(&rt),
         last: explain::nothing(),
         lines: 0,
         held: lines::nothing(),
         used: 0,
         over: false,
     };
-    answer_all(r, &mut line, &mut out);
+    answer_all(r, &mut rt.stdin(), &mut line, &mut out)
 }

@@ -83,10 +83,8 @@ fn difference(out: &mut [u8], at: usize, filter: u8, p: Place) -> usize {
 
 fn differences(out: &mut [u8], at: usize, places: [Place; 8]) -> usize {
     let mut n = at;
-    let mut k: usize = 0;
-    while k < 8 {
+    for k in 0..8 {
         n = difference(out, n, k as u8, places[k]);
-        k += 1;
     }
     n
 }

@@ -57,10 +57,8 @@ fn put(out: &mut [u8], at: usize, b: u8) -> usize {
 
 pub(crate) fn text(out: &mut [u8], at: usize, t: &[u8]) -> usize {
     let mut n = at;
-    let mut i: usize = 0;
-    while i < t.len() {
-        n = put(out, n, t[i]);
-        i += 1;
+    for b in t {
+        n = put(out, n, *b);
     }
     n
 }
@@ -80,14 +78,12 @@ pub(crate) fn numbered(out: &mut [u8], at: usize, name: &[u8], number: u64) -> u
 // A space before each byte.
 pub(crate) fn bytes(out: &mut [u8], at: usize, b: [u8; 16], count: usize) -> usize {
     let mut n = at;
-    let mut i: usize = 0;
-    while i < 16 {
+    for i in 0..16 {
         if count <= i {
             return n;
         }
         n = put(out, n, b' ');
         n = hex(out, n, b[i]);
-        i += 1;
     }
     n
 }

@@ -8,7 +8,11 @@ ghost use Rattle.terminal.specs.Terminal.{scanner, written, asked, switched_on, 
 use chip::Device;
 use events::Event;
 use frame::Header;
-use libc::{STDIN_FILENO, STDOUT_FILENO};
+
+// The numbers of standard input and output, which are what `io` reads from and writes to.
+const STDIN: i32 = 0;
+
+const STDOUT: i32 = 1;
 
 // Commands of 000's Table 1.
 const WRITE_CTRL0: u8 = 0x14;
@@ -85,7 +89,7 @@ fn bring(d: Device, scan: &[u8]) -> Device
     ensures { result ≡ brought d scan.now }
 {
     let mut payload = [0u8; 8];
-    bytes::copy(scan, &mut payload);
+    payload.copy_from_slice(scan);
     let o = bus::event(d, Event::GoodFrame(scanner(), true, 8), payload);
     o.device
 }
@@ -109,7 +113,7 @@ fn read(d: Device, line: &mut [u8]) -> Device
 {
     let mut message = [0u8; 14];
     let o = host::transfer(d, &[READ_MESSAGE], &mut message);
-    bytes::copy(&message[6..], line);
+    line.copy_from_slice(&message[6..]);
     o.device
 }
 
@@ -179,14 +183,14 @@ fn shift(scans: &[u8], page: &mut [u8]) -> usize
 
 fn print(page: &[u8], used: usize) {
     if used <= page.len() {
-        io::write_all(STDOUT_FILENO, &page[..used]);
+        io::write_all(STDOUT, &page[..used]);
     }
 }
 
 fn main() {
     let mut scans = io::buffer();
     let mut page = io::buffer();
-    let got = io::read_full(STDIN_FILENO, &mut scans);
+    let got = io::read_full(STDIN, &mut scans);
     let used = shift(&scans[..got], &mut page);
     print(&page, used);
 }

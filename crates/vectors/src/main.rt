@@ -39,12 +39,10 @@ fn read(d: Device, command: u8, count: usize) -> Device {
     let mut reply = [0u8; 16];
     let o = host::transfer(d, &[command], &mut reply);
     say_number(o.number);
-    let mut i: usize = 0;
-    while i < 16 {
+    for i in 0..16 {
         if i < count {
             say_byte(reply[i]);
         }
-        i += 1;
     }
     o.device
 }
@@ -92,11 +90,9 @@ fn filtering(first: u8, counts: u8) -> Device {
     let mut d = chip::fresh();
     let filters = [0x62, 0x64, 0x66, 0x68, 0x6A, 0x6C, 0x6E, 0x72];
     let masks = [0x74, 0x76, 0x78, 0x7A, 0x7C, 0x7E, 0x82, 0x84];
-    let mut i: usize = 0;
-    while i < 8 {
+    for i in 0..8 {
         d = quietly(d, &[filters[i], 0x24, 0x60, 0, 0, first, 0]);
         d = quietly(d, &[masks[i], 0xFF, 0xE0, 0, 0, counts, 0]);
-        i += 1;
     }
     d = quietly(d, &[0x16, 0x10]);
     quietly(d, &[0x14, 0x00])
@@ -104,10 +100,8 @@ fn filtering(first: u8, counts: u8) -> Device {
 
 fn full_queue(start: Device) -> Device {
     let mut d = start;
-    let mut i: usize = 0;
-    while i < 8 {
+    for _ in 0..8 {
         d = scan(d, 0x123);
-        i += 1;
     }
     d
 }
