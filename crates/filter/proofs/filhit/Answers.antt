@@ -1,5 +1,4 @@
 -- `filter::filhit` meets its contract: the zeros below a set's lowest bit are counted.
-use Rattle.std.proofs.Common.{sym, ◌∙◌}
 use native.Mathlib.Nat.{div-one}
 use Rattle.base.specs.Pick.{picks}
 use Rattle.filter.specs.Hits.{filhit}

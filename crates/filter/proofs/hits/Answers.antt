@@ -10,5 +10,5 @@ overflow_add-set c =
     let says : ℕ → Bool = matches_at c.args.bank c.args.masks c.args.vector in
     let asked : c.loop-k.k < 8 = omega arith in
     let joined : c.loop-k.set + c.flag.result * 2 ^ c.loop-k.k % 256 ≡ set_of (c.loop-k.k + 1) says =
-        set_more says c.loop-k.k c.loop-k.set c.flag.result asked c.loop-k.invariant.1 (c.flag.ensures.0 ∙ ap flag c.matches.ensures) in
+    set_more says c.loop-k.k c.loop-k.set c.flag.result asked c.loop-k.invariant.1 (c.flag.ensures.0 ∙ ap flag c.matches.ensures) in
     record { fits = rw joined (set_fits says c.loop-k.k asked) }

@@ -1,4 +1,4 @@
--- `line::read_line` meets its contract: the bytes before the first `#` are the line without its comment. Assumes nothing.
+-- `line::read_line` meets its contract: the bytes before the first `#` are the line without its comment.
 use Rattle.std.proofs.Common.{◌∙◌, List, ℕ, sym, ap, not, arith, take}
 use Rattle.std.proofs.Math.Seq.{length-take-le}
 use Rattle.line.specs.Request.{request_of, read_line}
