@@ -19,8 +19,8 @@ use Rattle.promise.specs.Records.{Records}
 use Rattle.promise.specs.Wrong.{only_first, queues_in_silence, room_first, reasons_exchanged, boasts, denies_done, believes_all, takes_two, short_takes, code_clipped}
 use Rattle.promise.specs.Wrong.{keeps_behind, reset_keeps, mode_clears, strangers_unseen, old_completion, nothing_copied}
 use Rattle.promise.specs.WrongLosses.{over_oldest, drops_new, shifts, over_seventh, leisurely, names_new, over_in_silence}
-use Rattle.promise.specs.WrongNumbers.{count_restarts, numbers_unheard, strangers_unnumbered, keeps_number, numbers_twice, takes_latest, twelve_early, twelve_first}
-use Rattle.promise.specs.WrongNumbers.{twelve_for_all, wraps_around, twelve_stops, tells_next, newest_first, as_placed, read_ones_too, of_any_device}
+use Rattle.promise.specs.WrongNumbers.{count_restarts, numbers_unheard, strangers_unnumbered, keeps_number, numbers_twice, temp_kept, temp_cleared, takes_latest, twelve_early}
+use Rattle.promise.specs.WrongNumbers.{twelve_first, twelve_for_all, wraps_around, twelve_stops, tells_next, newest_first, as_placed, read_ones_too, of_any_device}
 use Rattle.promise.specs.WrongRegisters.{commands_exchanged, filter_elsewhere, sleeps_at_once, mode_stays, bor_elsewhere, tx1m_kept, filton_ignored}
 use Rattle.promise.specs.WrongRegisters.{errs_exchanged, err_cleared, intf_kept, int_by_statfe, shows_another, hit_at_read, replies_zeros, blind, groups_always}
 use Rattle.promise.specs.WrongRegisters.{highest_shown, both_raised}
@@ -148,6 +148,8 @@ cases =
     uncounted strangers_unnumbered (none_matches ++ filters_on ∷ scan 1 ∷ []) ∷
     uncarried strangers_unnumbered (none_matches ++ filters_on ∷ scan 1 ∷ []) ∷
     uncarried keeps_number (full ++ pallet ∷ []) ∷
+    uncarried temp_kept (two ++ spi (0x56 ∷ []) [] ∷ []) ∷
+    uncarried temp_cleared (two ++ spi (0x5A ∷ []) [] ∷ []) ∷
     untold keeps_number full pallet ∷
     uncounted numbers_twice two ∷
     unordered numbers_twice two ∷

@@ -1,6 +1,6 @@
 -- Devices that number arrivals otherwise than 02 g) says, and ways to ask for the numbers that the promises rule out.
-use Rattle.std.specs.Prelude.{◌&&◌, [], ◌∷◌, map, ℕ, ◌+◌, ◌-◌, ◌^◌, eqb, ltb, get_or, set}
-use Rattle.base.specs.Bit.{is_set}
+use Rattle.std.specs.Prelude.{Bool, ◌&&◌, List, [], ◌∷◌, map, ℕ, ◌+◌, ◌-◌, ◌^◌, eqb, ltb, get_or, set}
+use Rattle.base.specs.Bit.{byte, is_set}
 use Rattle.base.specs.Pick.{pick}
 use Rattle.fifo.specs.Queue.{place, latest_place}
 use Rattle.chip.specs.declared.Device.{Device}
@@ -54,6 +54,23 @@ numbers_twice =
     pick (eqb (fate (values s.given)) 0 && is_set 0 n)
     (with_numbers s (record { last = n; temp = n; places = set s.device.serials.places (latest_place s.device.rx) n }))
     s)
+
+-- the temporary buffer's, by what a command makes of the numbers before it and after it
+abbrev pub commanding : (List ℕ → Step → Bool) → (Serials → Serials → ℕ) → Machine
+commanding which temp =
+    but_transfers (λ d bytes s.
+    let after = s.device.serials in
+    pick (which bytes s)
+    (with_numbers s (record { last = after.last; temp = temp d.serials after; places = after.places }))
+    s)
+
+-- kept over a host's reset, which clears the buffer
+abbrev pub temp_kept : Machine
+temp_kept = commanding reset_done (λ before after. before.temp)
+
+-- and cleared with the queue, by 0x5A, which leaves the buffer
+abbrev pub temp_cleared : Machine
+temp_cleared = commanding (λ bytes s. eqb (byte bytes 1) 0x5A) (λ before after. 0)
 
 -- a read that takes the latest
 abbrev pub takes_latest : Machine
