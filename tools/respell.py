@@ -1,7 +1,7 @@
 #!/usr/bin/env python3
 """Brings the names that this repository's specs/ and proofs/ declare to today's spelling.
 
-usage: python3 tools/respell.py        at the top, once, after port.py; a second run changes nothing
+usage: python3 tools/respell.py        at the top, once, right after port.py: what is written later has the new spelling
 
 A word is in snake case: `goodFrame` and `good-frame` become `good_frame`, and a middle dot joins as a dash does. Types,
 modules, what Rattle makes and what src/ names keep their spelling. Where two of a file's names would fall together, the
