@@ -151,16 +151,20 @@ fn finish(r: Run, line: &[u8], out: &mut [u8]) -> Run {
     e
 }
 
-// Reads once, and answers what came.
+// Reads once, and answers what came. Where that fails, what there is to say is said before the error.
 fn turn(r: Run, input: &mut Stdin, line: &mut [u8], out: &mut [u8]) -> std::io::Result<Run> {
     let mut chunk = io::buffer();
-    let n = input.read(&mut chunk)?;
-    if n == 0 {
-        Ok(finish(r, line, out))
-    } else {
-        let e = feed(r, &chunk[..n], line, out);
-        let over = e.over;
-        if over { Ok(e) } else { Ok(flush(e, out)) }
+    match input.read(&mut chunk) {
+        Err(error) => {
+            finish(r, line, out);
+            Err(error)
+        }
+        Ok(0) => Ok(finish(r, line, out)),
+        Ok(n) => {
+            let e = feed(r, &chunk[..n], line, out);
+            let over = e.over;
+            if over { Ok(e) } else { Ok(flush(e, out)) }
+        }
     }
 }
 

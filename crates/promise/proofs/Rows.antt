@@ -42,14 +42,14 @@ at_row P (s ∷ rs) c r found all =
     here P s r c (lookup rs c) (eqb s.command c) refl found all.0 (λ later. at_row P rs c r later all.1)
 
 -- two readings of a row that agree on the whole table agree on the row found
-alike : {A : Type 0} (by-byte : ℕ → A) (by_Row : Row → A) (rs : List Row) → map (λ r. by-byte r.command) rs ≡ map by_Row rs
-    → AtRows (λ c r. by-byte c ≡ by_Row r) rs
-alike by-byte by_Row [] same = tt
-alike by-byte by_Row (r ∷ rs) same = (cc, alike by-byte by_Row rs (cc))
+alike : {A : Type 0} (by-byte : ℕ → A) (by_row : Row → A) (rs : List Row) → map (λ r. by-byte r.command) rs ≡ map by_row rs
+    → AtRows (λ c r. by-byte c ≡ by_row r) rs
+alike by-byte by_row [] same = tt
+alike by-byte by_row (r ∷ rs) same = (cc, alike by-byte by_row rs (cc))
 
-pub by_table : {A : Type 0} (by-byte : ℕ → A) (by_Row : Row → A) → map (λ r. by-byte r.command) rows ≡ map by_Row rows
-    → (c : ℕ) (r : Row) → lookup rows c ≡ At r → by-byte c ≡ by_Row r
-by_table by-byte by_Row same c r found = at_row (λ c r. by-byte c ≡ by_Row r) rows c r found (alike by-byte by_Row rows same)
+pub by_table : {A : Type 0} (by-byte : ℕ → A) (by_row : Row → A) → map (λ r. by-byte r.command) rows ≡ map by_row rows
+    → (c : ℕ) (r : Row) → lookup rows c ≡ At r → by-byte c ≡ by_row r
+by_table by-byte by_row same c r found = at_row (λ c r. by-byte c ≡ by_row r) rows c r found (alike by-byte by_row rows same)
 
 -- ---- what it has in common with 01's bytes
 
