@@ -28,7 +28,7 @@ use Rattle.judged.specs.declared.Answer.{Answer}
 use Rattle.judged.specs.declared.Answer.TheVariants.{Refused as RefusedEvent, Done, Arrived}
 use Rattle.judged.specs.Judged.{quiet_mode, no_errors, runs, impossible_frame, impossible, takes_no_frames, unacknowledged, reason, said, gives_number, no_number_left}
 use Rattle.judged.specs.Judged.{bus_frame, nothing, brings}
-use Rattle.bus.specs.Event.{answered as answeredBy, answer, event, number_of}
+use Rattle.bus.specs.Event.{answered as answered_by, answer, event, number_of}
 use Rattle.commands.specs.declared.Found.{Found}
 use Rattle.commands.specs.declared.Found.TheVariants.{At, Nothing}
 use Rattle.commands.specs.declared.Row.{Row}
@@ -206,7 +206,7 @@ answer_number true false true a e = refl
 answer_number true false false a e = e
 
 event_first : (d : Device) (e : Event) (payload : List ℕ) → number_given step d (wire e payload) ≡ number_due (situation d) (wire e payload)
-unfolding event answer answeredBy number_due
+unfolding event answer answered_by number_due
 event_first d e payload =
     number_of_answer d e payload (answer d e payload)
     ∙ answer_number (proper d) (impossible d e) (no_number_left d (said_of d e payload)) (said_of d e payload) (said_done d _ _)

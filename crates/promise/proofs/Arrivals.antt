@@ -24,8 +24,8 @@ use Rattle.modes.specs.Modes.{bus_activity}
 use Rattle.receive.specs.declared.Arrival.{Arrival}
 use Rattle.receive.specs.declared.Brought.{Brought}
 use Rattle.receive.specs.declared.Arrival.TheVariants.{Queued, QueuedOver, A1, A2, A3, A4}
-use Rattle.receive.specs.Receive.{matching, hits, over_latest as overLatestOf, filters_and_room, is_queued, reaches_temporary, queued_flag, filter_flag}
-use Rattle.receive.specs.Receive.{queue_after, next_serial, serials_after, message as messageAt, arrived}
+use Rattle.receive.specs.Receive.{matching, hits, over_latest as over_latest_of, filters_and_room, is_queued, reaches_temporary, queued_flag, filter_flag}
+use Rattle.receive.specs.Receive.{queue_after, next_serial, serials_after, message as message_at, arrived}
 use Rattle.judged.specs.Judged.{quiet_mode, takes_no_frames, unacknowledged, reason}
 use Rattle.changed.specs.Changed.{counted_frame, heard, taken, arrival}
 use Rattle.bus.specs.Event.{arrival_values}
@@ -35,12 +35,12 @@ use Rattle.promise.specs.Filters.{compared}
 use Rattle.promise.specs.Frames.{Frame, message}
 use Rattle.promise.specs.Hits.{filhit_of}
 use Rattle.promise.specs.Ledger.{Ledger, frames, left, newest, accepts}
-use Rattle.promise.specs.Arrivals.{matching as matchingBy, arriving, first_true, from_the_bus, reasons, over_latest, told_by}
+use Rattle.promise.specs.Arrivals.{matching as matching_by, arriving, first_true, from_the_bus, reasons, over_latest, told_by}
 use Rattle.promise.specs.Noted.{activity_met, reaches, joins, entered, arrival_met, frame_met}
 use Rattle.promise.specs.Numbering.{serials, Rises}
 use Rattle.promise.specs.Records.{Records, with_counters}
 use Rattle.promise.specs.Sequence.{fate}
-use Rattle.promise.specs.Settings.{Settings, patterns, filton as filtonBit}
+use Rattle.promise.specs.Settings.{Settings, patterns, filton as filton_bit}
 use Rattle.promise.proofs.Banks.{bank_patterns}
 use Rattle.promise.proofs.Answered.{filters_reach}
 use Rattle.promise.proofs.Flags.{filter_flags, flags_risen}
@@ -109,11 +109,11 @@ bus_room full false false false what room queued = room queued
 module _ (d : Device) (r : Records) (h : Kept d r) where
   -- ---- the filters, and the message that is lost
 
-  pub matching_same : (header : Header) (payload : List ℕ) → possible header ≡ true → matching d header payload ≡ matchingBy r.settings header payload
+  pub matching_same : (header : Header) (payload : List ℕ) → possible header ≡ true → matching d header payload ≡ matching_by r.settings header payload
   unfolding matching
   matching_same header payload ok =
       rw (bank_patterns d.filters h.1.0.0, bank_patterns d.masks h.1.1.0, compared_same header payload ok, hits-alike (patterns d.filters) (patterns d.masks) (compared header payload))
-      (ap (λ (s : Settings). matchingBy s header payload) h.0)
+      (ap (λ (s : Settings). matching_by s header payload) h.0)
 
   abbrev l : Ledger
   l = r.ledger
@@ -122,8 +122,8 @@ module _ (d : Device) (r : Records) (h : Kept d r) where
   waits = left_waits d.rx d.serials.places l h.3.2
 
   -- with eight waiting, the one that is named is the last that was accepted
-  over_named : d.rx.count ≡ 8 → arrival_values (overLatestOf d.rx) ≡ over_latest (newest l)
-  unfolding overLatestOf arrival_values
+  over_named : d.rx.count ≡ 8 → arrival_values (over_latest_of d.rx) ≡ over_latest (newest l)
+  unfolding over_latest_of arrival_values
   over_named eight =
       let lost = newest l in
       ap (λ (g : Header). 6 ∷ g.id ∷ flag g.extended ∷ [])
@@ -142,18 +142,18 @@ module _ (d : Device) (r : Records) (h : Kept d r) where
     unfolding hits
     hits_same =
         rw (comes, matching_same b.header b.payload ok)
-        (ap (λ (s : Settings). pick (filtonBit s) (matchingBy r.settings b.header b.payload) 0) h.0)
+        (ap (λ (s : Settings). pick (filton_bit s) (matching_by r.settings b.header b.payload) 0) h.0)
 
-    message_same : messageAt d b.header b.payload set ≡ message f
+    message_same : message_at d b.header b.payload set ≡ message f
     message_same = rw (hits_same, filhit_same f.hits, h.2.1)
 
     -- ---- what it is told
 
-    by_filters : arrival_values (filters_and_room d set) ≡ told_by l (first_true (reasons (filtonBit r.settings) f []))
+    by_filters : arrival_values (filters_and_room d set) ≡ told_by l (first_true (reasons (filton_bit r.settings) f []))
     unfolding filters_and_room
     by_filters =
-        by_match l (filton d && eqb set 0) (full d.rx) (overLatestOf d.rx) (rw waits) (λ full. over_named (omega (arith, few, leb-true 8 d.rx.count full)))
-        ∙ rw hits_same (ap (λ (s : Settings). told_by l (pick (filtonBit s && eqb f.hits 0) 4 0)) h.0)
+        by_match l (filton d && eqb set 0) (full d.rx) (over_latest_of d.rx) (rw waits) (λ full. over_named (omega (arith, few, leb-true 8 d.rx.count full)))
+        ∙ rw hits_same (ap (λ (s : Settings). told_by l (pick (filton_bit s && eqb f.hits 0) 4 0)) h.0)
 
     -- what becomes of a frame from the bus
     abbrev of_the_bus : Arrival
@@ -169,23 +169,23 @@ module _ (d : Device) (r : Records) (h : Kept d r) where
     unfolding reason
     bus_reason bus = ap (λ (t : Bool). pick t (filters_and_room d set) of_the_bus) bus
 
-    pub own_due : b.own ≡ true → arrival_values (reason d b set) ≡ told_by l (first_true (reasons (filtonBit r.settings) f []))
+    pub own_due : b.own ≡ true → arrival_values (reason d b set) ≡ told_by l (first_true (reasons (filton_bit r.settings) f []))
     own_due own = ap arrival_values (own_reason own) ∙ by_filters
 
     pub bus_due : b.own ≡ false
         → arrival_values (reason d b set)
-        ≡ told_by l (first_true (reasons (filtonBit r.settings) f (from_the_bus r.settings.acting r.counters.busoff b.acknowledged)))
+        ≡ told_by l (first_true (reasons (filton_bit r.settings) f (from_the_bus r.settings.acting r.counters.busoff b.acknowledged)))
     unfolding takes_no_frames quiet_mode unacknowledged
     bus_due bus =
         ap arrival_values (bus_reason bus)
         ∙ by_bus l (takes_no_frames d.acting) d.counters.busoff (unacknowledged d.acting b.acknowledged) (filters_and_room d set)
-        (first_true (reasons (filtonBit r.settings) f [])) by_filters
+        (first_true (reasons (filton_bit r.settings) f [])) by_filters
         ∙ rw (h.2.0, ap (λ (s : Settings). s.acting) h.0)
 
     -- ---- and if it is queued, that goes by the room
 
     filters_find : is_queued (filters_and_room d set) ≡ true → full d.rx ≡ eqb (reason_of (filters_and_room d set)) 6
-    unfolding filters_and_room overLatestOf
+    unfolding filters_and_room over_latest_of
     filters_find =
         let lost = header_in (latest d.rx).bytes in
         own_room (filton d && eqb set 0) (full d.rx) lost.id lost.extended

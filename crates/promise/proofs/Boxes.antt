@@ -10,7 +10,7 @@ use lib.ListN.{length, get_or, drop, length-map, length-drop, get_or-map}
 use Rattle.base.specs.Pick.{pick}
 use Rattle.fifo.specs.declared.Fifo.{Fifo}
 use Rattle.fifo.specs.declared.Message.{Message}
-use Rattle.fifo.specs.Queue.{empty, full, waiting, put, take as takeOff, next}
+use Rattle.fifo.specs.Queue.{empty, full, waiting, put, take as take_off, next}
 use Rattle.fifo.proofs.Waiting.{put_waits, take_waits}
 use Rattle.chip.specs.State.{idle, first_in_fifo}
 use Rattle.transmit.specs.Transmit.{left_alone, stamped, fifo_after, tag_bits}
@@ -62,12 +62,12 @@ empty_boxed buffer = record { places = refl; queue = refl; runs = refl; pages = 
 
 -- ---- what waits when the oldest was taken, if there was one
 
-taken_cases : (n : ℕ) (q : Fifo) → q.count ≡ n → waiting (takeOff q) ≡ drop 1 (waiting q)
-unfolding takeOff
+taken_cases : (n : ℕ) (q : Fifo) → q.count ≡ n → waiting (take_off q) ≡ drop 1 (waiting q)
+unfolding take_off
 taken_cases zero q count = rw count
 taken_cases (suc n) q count = sym (ap (drop 1) (take_waits q n count))
 
-taken_waits : (q : Fifo) → waiting (takeOff q) ≡ drop 1 (waiting q)
+taken_waits : (q : Fifo) → waiting (take_off q) ≡ drop 1 (waiting q)
 taken_waits q = taken_cases q.count q refl
 
 pub map_drop : {A B : Type 0} (f : A → B) (n : ℕ) (xs : List A) → map f (drop n xs) ≡ drop n (map f xs)
@@ -197,7 +197,7 @@ module _ (tx : Fifo) (buffer : Message) (sending : ℕ) (history : Fifo) (mtag :
       → Boxed (fifo_after tx sending) buffer idle (put history (stamped buffer time)) (tag_bits buffer) (transmitted o time)
   unfolding fifo_after stamped
   transmitted_boxed time some = record {
-    places = pick_keeps (λ (q : Fifo). length q.items ≡ 8) (eqb sending first_in_fifo) (takeOff tx) tx (rw (taken_items tx) h.places) h.places;
+    places = pick_keeps (λ (q : Fifo). length q.items ≡ 8) (eqb sending first_in_fifo) (take_off tx) tx (rw (taken_items tx) h.places) h.places;
     queue = transmitted_queue o.running h.runs;
     runs = refl;
     pages = put_items history (stamped buffer time) ∙ h.pages;
@@ -209,7 +209,7 @@ module _ (tx : Fifo) (buffer : Message) (sending : ℕ) (history : Fifo) (mtag :
   }
 
   -- 0xEE
-  pub read_boxed : Boxed tx buffer sending (takeOff history) mtag (entry_taken o)
+  pub read_boxed : Boxed tx buffer sending (take_off history) mtag (entry_taken o)
   read_boxed = record {
     places = h.places;
     queue = h.queue;

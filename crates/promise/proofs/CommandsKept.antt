@@ -21,7 +21,7 @@ use Rattle.commands.specs.Verbs.{write_message}
 use Rattle.refused.specs.Refused.{finds_full, reads_message, finds_none}
 use Rattle.done.specs.Done.{pattern, registers_after, register_changed, message_taken, entry_taken, receive_cleared, time_reset, message_brought, message_written}
 use Rattle.done.specs.Done.{filter_written, mask_written, rec_written, tec_written, does}
-use Rattle.promise.specs.Counting.{rec_written as recMoved, tec_written as tec_moved}
+use Rattle.promise.specs.Counting.{rec_written as rec_moved, tec_written as tec_moved}
 use Rattle.promise.specs.Ledger.{takes}
 use Rattle.promise.specs.Outbox.{queued}
 use Rattle.promise.specs.Own.{message_fits, message_in, own_message}
@@ -130,7 +130,7 @@ module _ (d : Device) (r : Records) (h : Kept d r) (bytes : List ℕ) (some : eq
       and (λ a. (ap (λ s. with_inte s value) h.0, h.1, h.2, h.3, h.4))
       and (λ a. (ap (λ s. with_statfe s value) h.0, h.1, h.2, h.3, h.4))
       and (λ a. (ap (λ s. with_gpine s value) h.0, h.1, h.2, h.3, h.4))
-      and (λ a. (h.0, h.1, (ap (λ c. recMoved c value) h.2.0, h.2.1, h.2.2, h.2.3), h.3, h.4))
+      and (λ a. (h.0, h.1, (ap (λ c. rec_moved c value) h.2.0, h.2.1, h.2.2, h.2.3), h.3, h.4))
       and (λ a. (h.0, h.1, (ap (λ c. tec_moved c value) h.2.0, h.2.1, h.2.2, h.2.3), h.3, h.4))
       and filter 0 and filter 1 and filter 2 and filter 3 and filter 4 and filter 5 and filter 6 and filter 7
       and mask 0 and mask 1 and mask 2 and mask 3 and mask 4 and mask 5 and mask 6 and mask 7

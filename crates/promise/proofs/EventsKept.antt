@@ -15,7 +15,7 @@ use Rattle.frame.specs.Length.{possible, data_fits}
 use Rattle.chip.specs.declared.Device.{Device}
 use Rattle.chip.specs.State.{loopback, idle, bor, spent}
 use Rattle.flags.specs.Flags.{raised, bus_error}
-use Rattle.transmit.specs.Transmit.{can_begin, without_tx1m as tx1mCleared, ctrl1_begun, begun, stopped, counted_completion, transmitted}
+use Rattle.transmit.specs.Transmit.{can_begin, without_tx1m as tx1m_cleared, ctrl1_begun, begun, stopped, counted_completion, transmitted}
 use Rattle.receive.specs.declared.Arrival.{Arrival}
 use Rattle.receive.specs.declared.Brought.{Brought}
 use Rattle.receive.specs.Receive.{hits, reaches_temporary, arrived, own_frame}
@@ -40,7 +40,7 @@ use Rattle.promise.specs.Noted.{begun_met, completed_met, arrival_met, happened}
 use Rattle.promise.specs.Own.{Own}
 use Rattle.promise.specs.Records.{Records}
 use Rattle.promise.specs.Sequence.{fate}
-use Rattle.promise.specs.Settings.{Settings, settings_of, with_ctrl1, without_tx1m, with_pin, osm, bor as borBit}
+use Rattle.promise.specs.Settings.{Settings, settings_of, with_ctrl1, without_tx1m, with_pin, osm, bor as bor_bit}
 use Rattle.promise.proofs.Steps.{said_of, outcome_of}
 use Rattle.promise.proofs.Arrivals.{reason_of, bus_due, own_due, finds, own_reaches, own_taken, arrival_kept, frame_kept}
 use Rattle.promise.proofs.Boxes.{rests_same, buffer_runs, halted_boxed, begun_boxed, transmitted_boxed}
@@ -64,7 +64,7 @@ module _ (d : Device) (r : Records) (h : Kept d r) where
   -- ---- transmissions
 
   pub transmitted_kept : rests r.outbox.running ≡ false → Kept (transmitted d) (completed_met r)
-  unfolding transmitted raised tx1mCleared counted_completion completed
+  unfolding transmitted raised tx1m_cleared counted_completion completed
   transmitted_kept some = (
     ap without_tx1m h.0,
     h.1,
@@ -78,7 +78,7 @@ module _ (d : Device) (r : Records) (h : Kept d r) where
   one_shot false s v = refl
 
   pub begun_kept : can_begin d ≡ true → Kept (begun d) (begun_met r)
-  unfolding begun can_begin ctrl1_begun tx1mCleared
+  unfolding begun can_begin ctrl1_begun tx1m_cleared
   begun_kept can = (
     one_shot (osm (settings_of d)) (settings_of d) _ ∙ ap (λ (s : Settings). pick (osm s) (without_tx1m s) s) h.0,
     h.1,
@@ -217,7 +217,7 @@ module _ (d : Device) (r : Records) (h : Kept d r) (few : d.rx.count ≤ 8) wher
     (
       h.0,
       h.1,
-      (ap (λ c. group_met c (bor d)) h.2.0 ∙ ap (λ s. group_met r.counters (borBit s)) h.0, h.2.1, h.2.2, h.2.3),
+      (ap (λ c. group_met c (bor d)) h.2.0 ∙ ap (λ s. group_met r.counters (bor_bit s)) h.0, h.2.1, h.2.2, h.2.3),
       h.3,
       h.4,
     ),

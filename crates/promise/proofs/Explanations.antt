@@ -14,7 +14,7 @@ use Rattle.fifo.specs.Queue.{full, latest}
 use Rattle.frame.specs.declared.Header.{Header}
 use Rattle.frame.specs.Length.{possible, data_fits}
 use Rattle.frame.specs.Received.{header_in}
-use Rattle.frame.specs.Tables.{compared as comparedBy}
+use Rattle.frame.specs.Tables.{compared as compared_by}
 use Rattle.filter.specs.Hits.{matches_at, hits as hits_of}
 use Rattle.filter.proofs.Sets.{set_none}
 use Rattle.chip.specs.declared.Device.{Device}
@@ -28,7 +28,7 @@ use Rattle.judged.specs.declared.Answer.{Answer}
 use Rattle.judged.specs.declared.Answer.TheVariants.{Refused, Done, Arrived}
 use Rattle.judged.specs.Judged.{impossible_frame, impossible, takes_no_frames, unacknowledged, reason, said, no_number_left, bus_frame, brings}
 use Rattle.events.specs.declared.Event.TheVariants.{GoodFrame}
-use Rattle.bus.specs.Event.{answered as answeredBy, answer, event}
+use Rattle.bus.specs.Event.{answered as answered_by, answer, event}
 use Rattle.why.specs.declared.Place.{Place}
 use Rattle.why.specs.Why.{place_in, places, is_a4, no_filter, explained}
 use Rattle.promise.specs.Explanations.{no_place, EachHasOne}
@@ -94,7 +94,7 @@ module _ (d : Device) (h : Header) (acknowledged : Bool) (count : ℕ) (payload 
 
   module _ (a4 : no_filter told ≡ true) where
     parts : (impossible d (GoodFrame h acknowledged count) ≡ false) × (no_filter (said d brought (hits d brought)) ≡ true)
-    unfolding answer answeredBy brings
+    unfolding answer answered_by brings
     parts =
         let s = said d brought (hits d brought) in
         a4_alone (proper d) (impossible d (GoodFrame h acknowledged count)) (no_number_left d s) s a4
@@ -116,13 +116,13 @@ module _ (d : Device) (h : Header) (acknowledged : Bool) (count : ℕ) (payload 
         sym (ap (λ (t : Bool). pick t (matching d h payload) 0) (and_left (filton d) (eqb (hits d brought) 0) empty_handed))
         ∙ eqb-true (hits d brought) 0 (and_right (filton d) (eqb (hits d brought) 0) empty_handed)
 
-    misses : (k : ℕ) → k < 8 → matches_at (bank d.filters) (bank d.masks) (comparedBy h payload) k ≡ false
+    misses : (k : ℕ) → k < 8 → matches_at (bank d.filters) (bank d.masks) (compared_by h payload) k ≡ false
     unfolding matching hits_of
-    misses k l = set_none (matches_at (bank d.filters) (bank d.masks) (comparedBy h payload)) 8 none k l
+    misses k l = set_none (matches_at (bank d.filters) (bank d.masks) (compared_by h payload)) 8 none k l
 
-    place_at : (k : ℕ) → k < 8 → get_or (places d h payload) k no_place ≡ place_in (bank d.filters) (bank d.masks) (comparedBy h payload) k
+    place_at : (k : ℕ) → k < 8 → get_or (places d h payload) k no_place ≡ place_in (bank d.filters) (bank d.masks) (compared_by h payload) k
     unfolding places
-    place_at k l = table_at (place_in (bank d.filters) (bank d.masks) (comparedBy h payload)) no_place 8 k l
+    place_at k l = table_at (place_in (bank d.filters) (bank d.masks) (compared_by h payload)) no_place 8 k l
 
     each_has_one : EachHasOne d h payload (places d h payload)
     unfolding places
@@ -130,7 +130,7 @@ module _ (d : Device) (h : Header) (acknowledged : Bool) (count : ℕ) (payload 
       refl,
       λ k l.
           rw (place_at k l, ← compared_same h payload can, ← bank_at d.filters k l, ← bank_at d.masks k l)
-          (is_first (comparedBy h payload) (get_or (bank d.filters) k []) (get_or (bank d.masks) k []) (misses k l)),
+          (is_first (compared_by h payload) (get_or (bank d.filters) k []) (get_or (bank d.masks) k []) (misses k l)),
     )
 
 pub is_pointed : EachPlaceIsTheFirst

@@ -11,7 +11,7 @@ use Rattle.receive.specs.Receive.{matching}
 use Rattle.judged.specs.Judged.{impossible_frame}
 use Rattle.bus.specs.declared.types.Hits.{Hits}
 use Rattle.bus.specs.Hits.{hits}
-use Rattle.promise.specs.Arrivals.{matching as matchingBy}
+use Rattle.promise.specs.Arrivals.{matching as matching_by}
 use Rattle.promise.specs.Frames.{can_arrive}
 use Rattle.promise.specs.Promises.{EveryQuestionIsAnswered}
 use Rattle.promise.specs.Questions.{refused, Told}
@@ -46,5 +46,5 @@ module _ (d : Device) (r : Records) (range : InRange d) (k : Kept d r) where
   unfolding hits impossible_frame
   told_kept h count payload =
       rw (ranges_proper d range, arrives_same h count)
-      (by_frame (can_arrive h count) (matching d h payload) (matchingBy r.settings h payload)
+      (by_frame (can_arrive h count) (matching d h payload) (matching_by r.settings h payload)
       (λ can. matching_same d r k h payload (and_left (possible h) (data_fits h count) (arrives_same h count ∙ can))))

@@ -12,7 +12,7 @@ use lib.Seq.{get_or-append_seam, get_or-append-add}
 use Rattle.base.specs.Tabulate.{tabulate}
 use Rattle.fifo.specs.declared.Fifo.{Fifo}
 use Rattle.fifo.specs.declared.Message.{Message}
-use Rattle.fifo.specs.Queue.{absent, empty, full, is_empty, ring, waiting, put, place_over, put_over, next, latest, take as takeOff}
+use Rattle.fifo.specs.Queue.{absent, empty, full, is_empty, ring, waiting, put, place_over, put_over, next, latest, take as take_off}
 use Rattle.fifo.proofs.Waiting.{ring_more, ring_less, ring_over, put_waits, latest_eighth, over_waits}
 use Rattle.frame.specs.declared.Header.{Header}
 use Rattle.frame.specs.Length.{data_bytes, data_of}
@@ -55,8 +55,8 @@ length_tabulate f i (suc n) = ap suc (length_tabulate f (suc i) n)
 pub waiting_length : (q : Fifo) → length (waiting q) ≡ q.count
 waiting_length q = length_tabulate _ 0 q.count
 
-pub taken_items : (q : Fifo) → (takeOff q).items ≡ q.items
-unfolding takeOff
+pub taken_items : (q : Fifo) → (take_off q).items ≡ q.items
+unfolding take_off
 taken_items q = pick_under (λ (r : Fifo). r.items ≡ q.items) (is_empty q) _ _ (λ none. refl) (λ some. refl)
 
 pub put_items : (q : Fifo) (m : Message) → length (put q m).items ≡ length q.items
@@ -159,21 +159,21 @@ module _ (q : Fifo) (numbers : List ℕ) (l : Ledger) (h : HoldsLedger q numbers
     oldest_next = oldest_is message absent q.items q.first q.count l h.whole n some
 
     -- one less waits, from the next place on
-    taken_count_is : (takeOff q).count ≡ n
-    unfolding takeOff
+    taken_count_is : (take_off q).count ≡ n
+    unfolding take_off
     taken_count_is = rw (ne_eqb q.count 0 (λ none. omega (arith, some))) (omega (arith, some))
 
-    taken_first_is : (takeOff q).first ≡ (q.first + 1) % 8
-    unfolding takeOff
+    taken_first_is : (take_off q).first ≡ (q.first + 1) % 8
+    unfolding take_off
     taken_first_is = rw (ne_eqb q.count 0 (λ none. omega (arith, some)))
 
     -- the first number is that of the oldest
-    pub oldest_first : ring numbers 0 q.first q.count ≡ (oldest l).serial ∷ ring numbers 0 (takeOff q).first (takeOff q).count
+    pub oldest_first : ring numbers 0 q.first q.count ≡ (oldest l).serial ∷ ring numbers 0 (take_off q).first (take_off q).count
     oldest_first =
         rw (oldest_is serial_of 0 numbers q.first q.count l h.carried n some, taken_count_is, taken_first_is, some)
         (ring_less numbers 0 q.first n)
 
-    pub takes_holds : HoldsLedger (takeOff q) numbers (takes l)
+    pub takes_holds : HoldsLedger (take_off q) numbers (takes l)
     takes_holds = record {
       places = rw (taken_items q) h.places;
       eight = h.eight;

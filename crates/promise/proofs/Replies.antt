@@ -19,7 +19,7 @@ use Rattle.chip.specs.declared.Device.{Device}
 use Rattle.chip.specs.declared.Pattern.{Pattern}
 use Rattle.chip.specs.State.{absent, enabled}
 use Rattle.levels.specs.Levels.{rxerrp, txerrp, errw, errp, level_bits, tec_shown, groups_shown}
-use Rattle.drawn.specs.Drawn.{statf as statfOf, err as errOf, tstat as tstatOf, messtat as messtatOf}
+use Rattle.drawn.specs.Drawn.{statf as statf_of, err as err_of, tstat as tstat_of, messtat as messtat_of}
 use Rattle.commands.specs.declared.Found.TheVariants.{At}
 use Rattle.commands.specs.declared.Row.{Row}
 use Rattle.commands.specs.Table.{rows, lookup}
@@ -104,24 +104,24 @@ module _ (d : Device) (r : Records) (range : InRange d) (h : Kept d r) where
   unfolding intf
   intf_same = h.2.3
 
-  pub statf_same : statfOf d ≡ statf r
-  unfolding statfOf statf errw errp rxerrp txerrp
+  pub statf_same : statf_of d ≡ statf r
+  unfolding statf_of statf errw errp rxerrp txerrp
   statf_same =
       rw (queue_length _ _ _ _ _ _ h.4, history_length _ _ _ _ _ _ h.4, left_waits d.rx d.serials.places r.ledger h.3.2, h.2.0)
 
-  err_same : errOf d ≡ err r
-  unfolding errOf err level_bits rxerrp txerrp
+  err_same : err_of d ≡ err r
+  unfolding err_of err level_bits rxerrp txerrp
   err_same =
       let own : d.regs.errs % 32 ≡ d.regs.errs = mod-eq_of_lt (omega (arith, leb-true d.regs.errs 31 range.4)) in
       rw (own, h.2.2, h.2.0)
 
-  tstat_same : tstatOf d ≡ tstat r
-  unfolding tstatOf enabled
+  tstat_same : tstat_of d ≡ tstat r
+  unfolding tstat_of enabled
   tstat_same =
       rw (rests_same _ _ _ _ _ _ h.4, queue_length _ _ _ _ _ _ h.4, ap (λ (s : Settings). enables s.ctrl1 s.pin) h.0)
 
-  messtat_same : messtatOf d ≡ messtat r
-  unfolding messtatOf messtat
+  messtat_same : messtat_of d ≡ messtat r
+  unfolding messtat_of messtat
   messtat_same =
       let tag : d.regs.mtag % 4 ≡ d.regs.mtag = mod-eq_of_lt (omega (arith, leb-true d.regs.mtag 3 range.5)) in
       rw (tstat_same, tag, h.3.1, filhit_same r.latest.hits, h.4.tag)

@@ -15,8 +15,8 @@ use Rattle.commands.specs.declared.Row.{Row}
 use Rattle.commands.specs.Table.{rows, lookup}
 use Rattle.commands.specs.Verbs.{write_message}
 use Rattle.refused.specs.Refused.{sets_up, outside_set_up, finds_full, reads_message, finds_none}
-use Rattle.promise.specs.Commands.{Lengths, lengths, same_for, sets_up as setsUpBy, is_command, lengths_of}
-use Rattle.promise.specs.Numbers.{situation, finds_none as findsNoneBy}
+use Rattle.promise.specs.Commands.{Lengths, lengths, same_for, sets_up as sets_up_by, is_command, lengths_of}
+use Rattle.promise.specs.Numbers.{situation, finds_none as finds_none_by}
 use Rattle.promise.proofs.Among.{outside, among_outside}
 
 -- ---- a search
@@ -42,14 +42,14 @@ at_row P (s ∷ rs) c r found all =
     here P s r c (lookup rs c) (eqb s.command c) refl found all.0 (λ later. at_row P rs c r later all.1)
 
 -- two readings of a row that agree on the whole table agree on the row found
-alike : {A : Type 0} (by-byte : ℕ → A) (by_row : Row → A) (rs : List Row) → map (λ r. by-byte r.command) rs ≡ map by_row rs
-    → AtRows (λ c r. by-byte c ≡ by_row r) rs
-alike by-byte by_row [] same = tt
-alike by-byte by_row (r ∷ rs) same = (cc, alike by-byte by_row rs (cc))
+alike : {A : Type 0} (by-byte : ℕ → A) (by-row : Row → A) (rs : List Row) → map (λ r. by-byte r.command) rs ≡ map by-row rs
+    → AtRows (λ c r. by-byte c ≡ by-row r) rs
+alike by-byte by-row [] same = tt
+alike by-byte by-row (r ∷ rs) same = (cc, alike by-byte by-row rs (cc))
 
-pub by_table : {A : Type 0} (by-byte : ℕ → A) (by_row : Row → A) → map (λ r. by-byte r.command) rows ≡ map by_row rows
-    → (c : ℕ) (r : Row) → lookup rows c ≡ At r → by-byte c ≡ by_row r
-by_table by-byte by_row same c r found = at_row (λ c r. by-byte c ≡ by_row r) rows c r found (alike by-byte by_row rows same)
+pub by_table : {A : Type 0} (by-byte : ℕ → A) (by-row : Row → A) → map (λ r. by-byte r.command) rows ≡ map by-row rows
+    → (c : ℕ) (r : Row) → lookup rows c ≡ At r → by-byte c ≡ by-row r
+by_table by-byte by-row same c r found = at_row (λ c r. by-byte c ≡ by-row r) rows c r found (alike by-byte by-row rows same)
 
 -- ---- what it has in common with 01's bytes
 
@@ -67,9 +67,9 @@ module _ (d : Device) where
     is_command c,
     lengths_of c,
     eqb c 0x12,
-    not (eqb d.acting initialization) && setsUpBy c,
+    not (eqb d.acting initialization) && sets_up_by c,
     eqb c 0x12 && leb 8 d.tx.count,
-    findsNoneBy (situation d) c,
+    finds_none_by (situation d) c,
   )
 
   abbrev by_row : Row → Asked
@@ -83,7 +83,7 @@ module _ (d : Device) where
   )
 
   pub asked_same : (c : ℕ) (r : Row) → lookup rows c ≡ At r → by_byte c ≡ by_row r
-  unfolding rows sets_up outside_set_up finds_full reads_message finds_none is_command lengths_of setsUpBy findsNoneBy
+  unfolding rows sets_up outside_set_up finds_full reads_message finds_none is_command lengths_of sets_up_by finds_none_by
   asked_same = by_table by_byte by_row refl
 
 -- a command that no row has is none of 01's

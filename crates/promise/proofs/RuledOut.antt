@@ -24,7 +24,7 @@ use Rattle.why.specs.declared.Why.{Why}
 use Rattle.why.specs.Why.{no_filter}
 use Rattle.bus.specs.declared.types.Numbers.{Numbers as NumbersGiven}
 use Rattle.bus.specs.Hits.{hits}
-use Rattle.bus.specs.Numbers.{numbers as numbersOf}
+use Rattle.bus.specs.Numbers.{numbers as numbers_of}
 use Rattle.bus.specs.Pins.{pins}
 use Rattle.chip.specs.declared.Device.{Device}
 use Rattle.chip.specs.State.{fresh}
@@ -83,7 +83,7 @@ Promise (repeated w is i j) = After w Distinct
 Promise (untaken w is i) = After w (TakesFirst w)
 Promise (mislisted list is) = After shipped (Listed list)
 Promise (misnumbered list d) = ToldOfAny list
-Promise (astray w d r h i) = Onward w pins hits numbersOf
+Promise (astray w d r h i) = Onward w pins hits numbers_of
 
 -- ---- each promise makes its two sides equal
 

@@ -14,7 +14,7 @@ use Rattle.base.specs.Pick.{pick, flag}
 use Rattle.frame.specs.declared.Header.{Header}
 use Rattle.frame.specs.Length.{possible, data_fits, data_bytes, data_length, data_of}
 use Rattle.frame.specs.Received.{received}
-use Rattle.frame.specs.Tables.{id_bits, id_as_read, compared as comparedBy}
+use Rattle.frame.specs.Tables.{id_bits, id_as_read, compared as compared_by}
 use Rattle.frame.proofs.Data.{data_has}
 use Rattle.frame.proofs.Parts.{id_fits, code_fits}
 use Rattle.frame.proofs.ReadBack.{data_back}
@@ -80,8 +80,8 @@ pub identifier_laid : (h : Header) (bit4 bit0 : ℕ) → possible h ≡ true →
 unfolding id_bits
 identifier_laid h bit4 bit0 ok = by_kind h h.extended bit4 bit0 refl (id_fits h ok)
 
-pub compared_same : (h : Header) (payload : List ℕ) → possible h ≡ true → comparedBy h payload ≡ compared h payload
-unfolding comparedBy
+pub compared_same : (h : Header) (payload : List ℕ) → possible h ≡ true → compared_by h payload ≡ compared h payload
+unfolding compared_by
 compared_same h payload ok =
     rw (data_at h payload 0, data_at h payload 1, ← add-zero (bits 6 0 (id_bits h) * 2))
     (ap (λ bytes. bytes ++ map (data_byte h payload) (1 ∷ 2 ∷ [])) (identifier_laid h (flag h.remote) 0 ok))

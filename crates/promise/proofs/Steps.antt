@@ -16,7 +16,7 @@ use Rattle.judged.specs.declared.Answer.TheVariants.{Refused as RefusedEvent}
 use Rattle.judged.specs.Judged.{impossible, said, no_number_left, brings}
 use Rattle.bus.specs.declared.types.Outcome.{Outcome}
 use Rattle.receive.specs.Receive.{hits}
-use Rattle.bus.specs.Event.{answered as answeredBy, answer, outcome, event}
+use Rattle.bus.specs.Event.{answered as answered_by, answer, outcome, event}
 use Rattle.commands.specs.declared.Found.{Found}
 use Rattle.commands.specs.declared.Found.TheVariants.{At, Nothing}
 use Rattle.commands.specs.declared.Row.{Row}
@@ -27,7 +27,7 @@ use Rattle.refused.specs.Refused.{refusal, row_judged, verdict}
 use Rattle.refused.proofs.Accepted.{accepted_found}
 use Rattle.shown.specs.Shown.{shows}
 use Rattle.done.specs.Done.{does}
-use Rattle.host.specs.Transfer.{transfer, reply_after, reply, outcome as hostOutcome}
+use Rattle.host.specs.Transfer.{transfer, reply_after, reply, outcome as host_outcome}
 use Rattle.promise.specs.Sequence.{Input, spi, wire, Given, replied, answered, Step, shipped as step, number, run, conversation}
 
 -- what every step keeps holds after every sequence
@@ -89,7 +89,7 @@ judged_sound d bytes lent =
     (row_sound d (lookup rows (byte bytes 1)) bytes lent)
 
 same_step : (d : Device) (bytes buffer : List ℕ) (v : Verdict)
-    → record { device = (hostOutcome d bytes v).device; given = replied (hostOutcome d bytes v).number (reply d v buffer) }
+    → record { device = (host_outcome d bytes v).device; given = replied (host_outcome d bytes v).number (reply d v buffer) }
     ≡ judged_transfer d bytes buffer v
 same_step d bytes buffer (Refused n) = refl
 same_step d bytes buffer (Accepted r) = refl
@@ -142,6 +142,6 @@ pub by_event : (P : Step → Type 0) (d : Device) (e : Event) (payload : List �
     → ((n : ℕ) → eqb n 0 ≡ false → P (refused_event d n))
     → (impossible d e ≡ false → no_number_left d (said_of d e payload) ≡ false → P (done_event d e payload (said_of d e payload)))
     → P (step d (wire e payload))
-unfolding event answer answeredBy
+unfolding event answer answered_by
 by_event P d e payload no_way way =
     by_checks P d e payload (proper d) (impossible d e) (no_number_left d (said_of d e payload)) (said_of d e payload) no_way way

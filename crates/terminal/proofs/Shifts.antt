@@ -13,7 +13,7 @@ use Rattle.promise.specs.Frames.{message}
 use Rattle.promise.specs.Ledger.{kept}
 use Rattle.promise.specs.Records.{Records}
 use Rattle.terminal.specs.declared.Turn.{Turn}
-use Rattle.terminal.specs.Terminal.{switched_on, brought, scans as scansIn, Reached, Listens, Serves, Wakes, Served}
+use Rattle.terminal.specs.Terminal.{switched_on, brought, scans as scans_in, Reached, Listens, Serves, Wakes, Served}
 use Rattle.terminal.proofs.Coming.{scan_listens, scan_count, scan_last, scan_wakes, int_is, on, on_book, on_count, on_last, on_listens, on_wakes}
 use Rattle.terminal.proofs.Serving.{bring_serves, all_printed}
 
@@ -51,8 +51,8 @@ pub begun : (scans page : List ℕ) (n : ℕ) → n * 8 ≤ length scans → len
 begun scans page n enough fits few_enough = record {
   serves = record {
     reached = on;
-    stand = ap (λ (r : Records). scansIn (map message (kept r.ledger))) on_book;
-    taken = ap (λ (r : Records). scansIn (map message r.ledger.taken)) on_book;
+    stand = ap (λ (r : Records). scans_in (map message (kept r.ledger))) on_book;
+    taken = ap (λ (r : Records). scans_in (map message r.ledger.taken)) on_book;
   };
   listens = on_listens;
   wakes = on_wakes;
