@@ -10,7 +10,6 @@ use lib.ListN.{length, drop}
 use Rattle.base.specs.Bit.{byte}
 use Rattle.base.specs.Pick.{pick}
 use Rattle.fifo.specs.Queue.{full, latest}
-use Rattle.frame.specs.Length.{possible}
 use Rattle.frame.specs.Received.{header_in}
 use Rattle.chip.specs.declared.Device.{Device}
 use Rattle.chip.specs.Proper.{proper}

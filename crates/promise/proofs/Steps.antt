@@ -28,7 +28,7 @@ use Rattle.refused.proofs.Accepted.{accepted_found}
 use Rattle.shown.specs.Shown.{shows}
 use Rattle.done.specs.Done.{does}
 use Rattle.host.specs.Transfer.{transfer, reply_after, reply, outcome as host_outcome}
-use Rattle.promise.specs.Sequence.{Input, spi, wire, Given, replied, answered, Step, shipped as step, number, run, conversation}
+use Rattle.promise.specs.Sequence.{Input, spi, wire, Given, replied, answered, Step, shipped as step, run, conversation}
 
 -- what every step keeps holds after every sequence
 pub keeps : {A : Type 0} (note : A → Input → Given → A) (R : Device → A → Type 0)
