@@ -1,4 +1,3 @@
-pub mod Among
 pub mod Bits
 pub mod Booleans
 pub mod Lists

@@ -3,16 +3,9 @@ use mathlib.Core.Path.{◌≡◌, refl, ap, sym, ◌∙◌}
 use mathlib.Core.List.{List, [], ◌∷◌, ◌++◌}
 use Prim.Native.Nat.{ℕ, zero, suc, ◌<◌, ◌≤◌, ◌+◌, ◌-◌}
 use native.Mathlib.Omega.{arith}
-use native.Mathlib.Numerals.{add-one}
 use native.Mathlib.Nat.{zero-add, add-zero, add-suc, suc-add, zero-sub, sub-zero, suc-sub-suc, le_of_suc-le-suc, not-suc-le-zero}
-use lib.ListN.{length, take, drop, get_or, set, replicate}
-use lib.Seq.{paste-suc}
+use lib.ListN.{length, drop, get_or, replicate}
 use Rattle.base.specs.Tabulate.{tabulate}
-
--- a turn of a loop that copies s over the front of d
-pub copy_more : {A : Type 0} (d s : List A) (i : ℕ) (z : A) → i < length d → i < length s
-    → set (take i s ++ drop i d) i (get_or s i z) ≡ take (i + 1) s ++ drop (i + 1) d
-copy_more d s i z p q = rw (add-one i) (simp zero-add at (paste-suc d 0 s i z (omega arith) q))
 
 -- the rest of a run of equal elements
 pub drop_replicate : {A : Type 0} (n m : ℕ) (a : A) → drop n (replicate m a) ≡ replicate (m - n) a

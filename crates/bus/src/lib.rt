@@ -11,29 +11,30 @@ ghost use Rattle.bus.specs.Pins.{pins};
 use chip::Device;
 use events::Event;
 use frame::Header;
-use judged::Answer;
 use receive::Brought;
-use types::{Hits, Numbers, Outcome, Pins};
+use refusal::Refusal;
+use std::array;
+use types::{Answer, Numbers, Outcome, Pins};
 
 pub mod types;
 
-#[tactic(auto, using(base::specs::Pick::picks, base::specs::Pick::judges), unfolding(crate::specs::Event::answered))]
-fn answered(d: Device, e: Event, b: Brought, hits: u8) -> Answer
+// The set goes beside the frame: `judged::said` and `changed::arrival` promise an answer for every set, and not for the
+// one alone that `receive::hits` gives.
+#[tactic(auto, using(base::specs::Pick::picks), unfolding(crate::specs::Event::answered))]
+fn answered(d: Device, e: Event, b: Option<Brought>, hits: u8) -> Answer
     ensures { result ≡ answered d e b hits }
 {
-    let impossible = judged::impossible(d, e);
-    let a = judged::said(d, b, hits);
-    let spent = judged::no_number_left(d, a);
-    if chip::proper(d) {
-        if impossible {
-            return Answer::Refused(8);
-        }
-        if spent {
-            return Answer::Refused(12);
-        }
-        return a;
+    if !chip::proper(d) {
+        return Err(Refusal::OutOfRange);
     }
-    Answer::Refused(1)
+    if judged::impossible(d, e) {
+        return Err(Refusal::Impossible);
+    }
+    let told = judged::said(d, b, hits);
+    if judged::no_number_left(d, told) {
+        return Err(Refusal::NoNumberLeft);
+    }
+    Ok(told)
 }
 
 // The answer that an event gets; the device stays.
@@ -52,42 +53,27 @@ pub fn event(d: Device, e: Event, payload: [u8; 8]) -> Outcome
 {
     let b = judged::brings(d, e, payload);
     let hits = receive::hits(d, b);
-    let a = answered(d, e, b, hits);
-    match a {
-        Answer::Refused(n) => Outcome {
-            device: d,
-            answer: Answer::Refused(n),
-        },
-        Answer::Done => {
-            let after = changed::after(d, e);
-            Outcome {
-                device: after,
-                answer: Answer::Done,
-            }
-        }
-        Answer::Arrived(what) => {
-            let arrived = changed::arrival(d, b, hits, what);
-            Outcome {
-                device: arrived,
-                answer: Answer::Arrived(what),
-            }
-        }
-    }
+    let answer = answered(d, e, b, hits);
+    let device = match (answer, b) {
+        (Err(_), _) => d,
+        (Ok(Some(what)), Some(b)) => changed::arrival(d, b, hits, what),
+        (Ok(_), _) => changed::after(d, e),
+    };
+    Outcome { device, answer }
 }
 
 // Which filters match a frame, whether FILTON is on or not: people tune filters before they turn them on.
-#[tactic(auto, using(base::specs::Pick::picks, base::specs::Pick::judges), unfolding(crate::specs::Hits::hits))]
-pub fn hits(d: Device, h: Header, given: usize, payload: [u8; 8]) -> Hits
+#[tactic(auto, using(base::specs::Pick::picks), unfolding(crate::specs::Hits::hits))]
+pub fn hits(d: Device, h: Header, given: usize, payload: [u8; 8]) -> Result<u8, Refusal>
     ensures { result ≡ hits d h given payload }
 {
-    if chip::proper(d) {
-        if judged::impossible_frame(h, given) {
-            return Hits { number: 8, set: 0 };
-        }
-        let set = receive::matching(d, h, payload);
-        return Hits { number: 0, set };
+    if !chip::proper(d) {
+        return Err(Refusal::OutOfRange);
     }
-    Hits { number: 1, set: 0 }
+    if judged::impossible_frame(h, given) {
+        return Err(Refusal::Impossible);
+    }
+    Ok(receive::matching(d, h, payload))
 }
 
 // The arrival number of the message so many behind the oldest, where one waits.
@@ -95,49 +81,34 @@ pub fn hits(d: Device, h: Header, given: usize, payload: [u8; 8]) -> Hits
 fn waiting_number(d: Device, k: u8) -> u64
     ensures { result ≡ waiting_number d k }
 {
-    let places = d.serials.places;
-    let place = fifo::place(d.rx, k as u16);
-    if k < d.rx.count { places[place] } else { 0 }
+    if k < d.rx.count {
+        d.serials.places[fifo::place(d.rx, k as u16)]
+    } else {
+        0
+    }
 }
 
 #[tactic(auto, unfolding(crate::specs::Numbers::waiting_numbers))]
 fn waiting_numbers(d: Device) -> [u64; 8]
     ensures { result ≡ waiting_numbers d }
 {
-    [
-        waiting_number(d, 0),
-        waiting_number(d, 1),
-        waiting_number(d, 2),
-        waiting_number(d, 3),
-        waiting_number(d, 4),
-        waiting_number(d, 5),
-        waiting_number(d, 6),
-        waiting_number(d, 7),
-    ]
+    array::from_fn(|k| waiting_number(d, k as u8))
 }
 
 // The arrival numbers, for the layer above: which of two like messages the next read takes.
 #[tactic(auto, using(base::specs::Pick::picks), unfolding(crate::specs::Numbers::numbers))]
-pub fn numbers(d: Device) -> Numbers
+pub fn numbers(d: Device) -> Result<Numbers, Refusal>
     ensures { result ≡ numbers d }
 {
-    if chip::proper(d) {
-        let waiting = waiting_numbers(d);
-        return Numbers {
-            number: 0,
-            last: d.serials.last,
-            temp: d.serials.temp,
-            count: d.rx.count,
-            waiting,
-        };
+    if !chip::proper(d) {
+        return Err(Refusal::OutOfRange);
     }
-    Numbers {
-        number: 1,
-        last: 0,
-        temp: 0,
-        count: 0,
-        waiting: [0; 8],
-    }
+    Ok(Numbers {
+        last: d.serials.last,
+        temp: d.serials.temp,
+        count: d.rx.count,
+        waiting: waiting_numbers(d),
+    })
 }
 
 // The four output pins.
@@ -145,15 +116,10 @@ pub fn numbers(d: Device) -> Numbers
 pub fn pins(d: Device) -> Pins
     ensures { result ≡ pins d }
 {
-    let gpine = d.regs.gpine;
-    let int = drawn::int(d);
-    let stat = drawn::stat(d);
-    let gp1 = drawn::gp(d, gpine % 16);
-    let gp2 = drawn::gp(d, gpine / 16);
     Pins {
-        int,
-        stat,
-        gp1,
-        gp2,
+        int: drawn::int(d),
+        stat: drawn::stat(d),
+        gp1: drawn::gp(d, d.regs.gpine % 16),
+        gp2: drawn::gp(d, d.regs.gpine / 16),
     }
 }

@@ -1,7 +1,12 @@
 // What the door gives back: for an event, for the questions of the filters and of the arrival numbers, and the output
 // pins.
 use chip::Device;
-use judged::Answer;
+use receive::Arrival;
+use refusal::Refusal;
+
+// A refusal, or that the event is done: of a good frame, or of an own message that came back in loopback, with what
+// became of it.
+pub type Answer = Result<Option<Arrival>, Refusal>;
 
 #[derive(Clone, Copy)]
 pub struct Outcome {
@@ -9,17 +14,9 @@ pub struct Outcome {
     pub answer: Answer,
 }
 
-// The filters that match a frame, a bit for each; none beside a number that isn't 0.
-#[derive(Clone, Copy)]
-pub struct Hits {
-    pub number: u8,
-    pub set: u8,
-}
-
-// The arrival numbers; zeros beside a number that isn't 0.
-#[derive(Clone, Copy)]
+// The arrival numbers.
+#[derive(Clone, Copy, Debug, PartialEq, Eq)]
 pub struct Numbers {
-    pub number: u8,
     // The last that was given.
     pub last: u64,
     // That of the frame in the temporary receive buffer.
@@ -29,7 +26,7 @@ pub struct Numbers {
     pub waiting: [u64; 8],
 }
 
-#[derive(Clone, Copy)]
+#[derive(Clone, Copy, Debug, PartialEq, Eq)]
 pub struct Pins {
     pub int: bool,
     pub stat: bool,

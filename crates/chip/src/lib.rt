@@ -8,7 +8,8 @@ ghost use Rattle.chip.specs.Proper.{registers_in_range, sending_in_range, acting
 use counters::Counters;
 use fifo::{Fifo, Message};
 
-// The modes that can act.
+// The modes that can act. A device holds the number of one and no enum, here and of `sending` below: a state may come
+// with any byte there, and `proper` refuses those that no chip has.
 pub const NORMAL: u8 = 0;
 
 pub const LOOPBACK: u8 = 1;
@@ -29,12 +30,12 @@ pub const FIRST_IN_FIFO: u8 = 1;
 pub const ALONE: u8 = 2;
 
 // A filter's or a mask's six bytes.
-#[derive(Clone, Copy)]
+#[derive(Clone, Copy, Default)]
 pub struct Pattern {
     pub bytes: [u8; 6],
 }
 
-#[derive(Clone, Copy)]
+#[derive(Clone, Copy, Default)]
 pub struct Registers {
     pub ctrl0: u8,
     pub ctrl1: u8,
@@ -90,46 +91,28 @@ pub struct Device {
 pub fn fresh() -> Device
     ensures { result ≡ fresh }
 {
-    let zeros = Pattern { bytes: [0; 6] };
-    let bank = [zeros; 8];
-    let none = fifo::empty();
-    let nothing = Message { bytes: [0; 16] };
-    let regs = Registers {
-        ctrl0: 0x80,
-        ctrl1: 0,
-        btr0: 0,
-        btr1: 0,
-        inte: 0,
-        statfe: 0,
-        gpine: 0,
-        intf: 0,
-        errs: 0,
-        hits: 0,
-        mtag: 0,
-    };
-    let counters = Counters {
-        rec: 0,
-        tec: 0,
-        busoff: false,
-        groups: 0,
-    };
-    let serials = Serials {
-        last: 0,
-        temp: 0,
-        places: [0; 8],
-    };
+    let zeros = Pattern::default();
+    let none = Message::default();
     Device {
-        regs,
-        counters,
-        serials,
-        filters: bank,
-        masks: bank,
-        rx: none,
-        temp: nothing,
-        tx: none,
-        buffer: nothing,
+        regs: Registers {
+            ctrl0: 0x80,
+            ..Registers::default()
+        },
+        counters: Counters::default(),
+        // In full: with a derive for these too, the proof of the whole is not found.
+        serials: Serials {
+            last: 0,
+            temp: 0,
+            places: [0; 8],
+        },
+        filters: [zeros; 8],
+        masks: [zeros; 8],
+        rx: fifo::empty(),
+        temp: none,
+        tx: fifo::empty(),
+        buffer: none,
         sending: IDLE,
-        history: none,
+        history: fifo::empty(),
         time: 0,
         txenpin: false,
         acting: INITIALIZATION,
@@ -152,47 +135,47 @@ pub fn mode_of(ctrl0: u8) -> u8
 pub fn reset_bit(ctrl0: u8) -> bool
     ensures { result ≡ reset_bit ctrl0 }
 {
-    (ctrl0 >> 3) % 2 == 1
+    base::is_set(3, ctrl0)
 }
 
 // CTRL0's BOR: bus off ends by itself.
 pub fn bor(d: Device) -> bool
     ensures { result ≡ bor d }
 {
-    (d.regs.ctrl0 >> 2) % 2 == 1
+    base::is_set(2, d.regs.ctrl0)
 }
 
 // CTRL0's WAKEUP: activity on the bus ends sleep.
 pub fn wakeup(d: Device) -> bool
     ensures { result ≡ wakeup d }
 {
-    (d.regs.ctrl0 >> 4) % 2 == 1
+    base::is_set(4, d.regs.ctrl0)
 }
 
 fn txen(d: Device) -> bool
     ensures { result ≡ txen d }
 {
-    (d.regs.ctrl1 >> 7) % 2 == 1
+    base::is_set(7, d.regs.ctrl1)
 }
 
 fn tx1m(d: Device) -> bool
     ensures { result ≡ tx1m d }
 {
-    (d.regs.ctrl1 >> 6) % 2 == 1
+    base::is_set(6, d.regs.ctrl1)
 }
 
 // CTRL1's OSM: one-shot mode.
 pub fn osm(ctrl1: u8) -> bool
     ensures { result ≡ osm ctrl1 }
 {
-    (ctrl1 >> 5) % 2 == 1
+    base::is_set(5, ctrl1)
 }
 
 // CTRL1's FILTON: frames go through the filters.
 pub fn filton(d: Device) -> bool
     ensures { result ≡ filton d }
 {
-    (d.regs.ctrl1 >> 4) % 2 == 1
+    base::is_set(4, d.regs.ctrl1)
 }
 
 // Whether transmission is enabled: by TXEN, TX1M or the TXEN pin.
@@ -215,23 +198,11 @@ pub fn spent(d: Device) -> bool
 pub fn bank(patterns: [Pattern; 8]) -> [[u8; 6]; 8]
     ensures { result ≡ bank patterns }
 {
-    let p0 = patterns[0];
-    let p1 = patterns[1];
-    let p2 = patterns[2];
-    let p3 = patterns[3];
-    let p4 = patterns[4];
-    let p5 = patterns[5];
-    let p6 = patterns[6];
-    let p7 = patterns[7];
-    let b0 = p0.bytes;
-    let b1 = p1.bytes;
-    let b2 = p2.bytes;
-    let b3 = p3.bytes;
-    let b4 = p4.bytes;
-    let b5 = p5.bytes;
-    let b6 = p6.bytes;
-    let b7 = p7.bytes;
-    [b0, b1, b2, b3, b4, b5, b6, b7]
+    patterns.map(
+        |p|
+            ensures { result ≡ p.bytes }
+        { p.bytes },
+    )
 }
 
 #[tactic(auto, unfolding(crate::specs::Proper::registers_in_range))]
@@ -245,11 +216,10 @@ fn registers_in_range(r: Registers) -> bool
 fn sending_in_range(d: Device) -> bool
     ensures { result ≡ sending_in_range d }
 {
-    let sending = d.sending;
-    if sending == FIRST_IN_FIFO {
+    if d.sending == FIRST_IN_FIFO {
         1 <= d.tx.count
     } else {
-        sending <= ALONE
+        d.sending <= ALONE
     }
 }
 
@@ -257,12 +227,11 @@ fn sending_in_range(d: Device) -> bool
 fn acting_in_range(d: Device) -> bool
     ensures { result ≡ acting_in_range d }
 {
-    let acting = d.acting;
     let named = mode_of(d.regs.ctrl0);
     if named == SLEEP {
-        acting <= INITIALIZATION
+        d.acting <= INITIALIZATION
     } else {
-        acting == named
+        d.acting == named
     }
 }
 
@@ -271,12 +240,11 @@ fn acting_in_range(d: Device) -> bool
 pub fn proper(d: Device) -> bool
     ensures { result ≡ proper d }
 {
-    let receive = fifo::in_range(d.rx);
-    let transmit = fifo::in_range(d.tx);
-    let history = fifo::in_range(d.history);
-    let registers = registers_in_range(d.regs);
-    let groups = d.counters.groups <= 128;
-    let sending = sending_in_range(d);
-    let acting = acting_in_range(d);
-    receive & transmit & history & registers & groups & sending & acting
+    fifo::in_range(d.rx)
+        & fifo::in_range(d.tx)
+        & fifo::in_range(d.history)
+        & registers_in_range(d.regs)
+        & (d.counters.groups <= 128)
+        & sending_in_range(d)
+        & acting_in_range(d)
 }

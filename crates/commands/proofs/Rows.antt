@@ -3,17 +3,15 @@ use mathlib.Core.Path.{◌≡◌, refl}
 use mathlib.Core.Bool.{Bool, true, false, not, ◌&&◌}
 use mathlib.Core.List.{List, [], ◌∷◌}
 use mathlib.Core.Logic.{◌⊎◌, inl, inr, ⊎_elim}
-use Prim.Native.Nat.{ℕ, suc, ◌<◌, ◌≤◌}
-use native.Mathlib.Nat.{le_of_suc-le-suc, not-suc-le-zero}
+use Prim.Native.Nat.{ℕ, suc, ◌≤◌}
 use borrow.Author.Tests.{leb-true}
 use lib.Dec.{eqb, leb}
-use lib.ListN.{length, get_or}
+use lib.ListN.{length}
 use Rattle.base.specs.Pick.{pick}
 use Rattle.base.proofs.Booleans.{and_left, and_right}
-use Rattle.commands.specs.declared.Found.{Found}
-use Rattle.commands.specs.declared.Found.TheVariants.{At, Nothing}
+use Rattle.std.specs.Prelude.{Option, Some, slice_get}
 use Rattle.commands.specs.declared.Row.{Row}
-use Rattle.commands.specs.Table.{factory, rows, no_row, lookup, place_in}
+use Rattle.commands.specs.Table.{factory, rows, lookup, place_in}
 
 -- a rule of every row
 abbrev pub all : (Row → Bool) → List Row → Bool
@@ -37,12 +35,12 @@ pub rows_length : length rows ≡ 69
 unfolding rows
 rows_length = refl
 
-found_at : (t : Bool) (r s : Row) (f : Found) → pick t (At r) f ≡ At s → (r ≡ s) ⊎ (f ≡ At s)
+found_at : (t : Bool) (r s : Row) (f : Option Row) → pick t (Some r) f ≡ Some s → (r ≡ s) ⊎ (f ≡ Some s)
 found_at true r s f e = inl (cc)
 found_at false r s f e = inr e
 
 -- what holds of every row holds of the one that a search finds
-pub lookup_all : (rule : Row → Bool) (rs : List Row) (c : ℕ) (s : Row) → lookup rs c ≡ At s → all rule rs ≡ true → rule s ≡ true
+pub lookup_all : (rule : Row → Bool) (rs : List Row) (c : ℕ) (s : Row) → lookup rs c ≡ Some s → all rule rs ≡ true → rule s ≡ true
 lookup_all rule [] c s e h = cc
 lookup_all rule (r ∷ rs) c s e h =
     ⊎_elim
@@ -50,26 +48,17 @@ lookup_all rule (r ∷ rs) c s e h =
     (λ q. lookup_all rule rs c s q (and_right (rule r) (all rule rs) h))
     (found_at (eqb r.command c) r s (lookup rs c) e)
 
-pub out_le : (c : ℕ) (r : Row) → lookup rows c ≡ At r → r.out ≤ 16
+pub out_le : (c : ℕ) (r : Row) → lookup rows c ≡ Some r → r.out ≤ 16
 out_le c r e =
     leb-true r.out 16
     (and_left (leb r.out 16) _ (lookup_all sound rows c r e (and_left (all sound rows) (distinct rows) table_rule)))
 
-here : (t : Bool) (r : Row) (p : ℕ) (rs : List Row) (f : Found) → pick t 0 (suc p) < suc (length rs)
-    → (p < length rs → At (get_or rs p no_row) ≡ f) → At (get_or (r ∷ rs) (pick t 0 (suc p)) no_row) ≡ pick t (At r) f
-here true r p rs f h on = refl
-here false r p rs f h on = on (le_of_suc-le-suc h)
+here : (t : Bool) (r : Row) (p : ℕ) (rs : List Row) (f : Option Row) → slice_get rs p ≡ f
+    → slice_get (r ∷ rs) (pick t 0 (suc p)) ≡ pick t (Some r) f
+here true r p rs f on = refl
+here false r p rs f on = on
 
--- the row at a command's place is the one that a search finds
-pub at_place : (rs : List Row) (c : ℕ) → place_in rs c < length rs → At (get_or rs (place_in rs c) no_row) ≡ lookup rs c
-at_place [] c h = absurd (not-suc-le-zero h)
-at_place (r ∷ rs) c h = here (eqb r.command c) r (place_in rs c) rs (lookup rs c) h (at_place rs c)
-
-nowhere : (t : Bool) (r : Row) (p n : ℕ) (f : Found) → suc n ≤ pick t 0 (suc p) → (n ≤ p → Nothing ≡ f) → Nothing ≡ pick t (At r) f
-nowhere true r p n f h on = absurd (not-suc-le-zero h)
-nowhere false r p n f h on = on (le_of_suc-le-suc h)
-
--- and where the place is past the last row, a search finds none
-pub no_place : (rs : List Row) (c : ℕ) → length rs ≤ place_in rs c → Nothing ≡ lookup rs c
-no_place [] c h = refl
-no_place (r ∷ rs) c h = nowhere (eqb r.command c) r (place_in rs c) (length rs) (lookup rs c) h (no_place rs c)
+-- the row at a command's place is the one that a search finds; past the last there is none
+pub at_place : (rs : List Row) (c : ℕ) → slice_get rs (place_in rs c) ≡ lookup rs c
+at_place [] c = refl
+at_place (r ∷ rs) c = here (eqb r.command c) r (place_in rs c) rs (lookup rs c) (at_place rs c)

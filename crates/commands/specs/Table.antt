@@ -1,8 +1,6 @@
 -- The commands, in the order of 000's Table 1 (01, Transfers: "one constant table: command, bytes in, bytes out").
-use Rattle.std.specs.Prelude.{Bool, ◌||◌, List, [], ◌∷◌, ℕ, suc, eqb}
+use Rattle.std.specs.Prelude.{Bool, ◌||◌, List, [], ◌∷◌, ℕ, suc, eqb, Option, Some, None}
 use Rattle.base.specs.Pick.{pick}
-use Rattle.commands.specs.declared.Found.{Found}
-use Rattle.commands.specs.declared.Found.TheVariants.{At, Nothing}
 use Rattle.commands.specs.declared.Row.{Row}
 use Rattle.commands.specs.Verbs.{read_temporary_with_time, read_temporary, read_message_with_time, read_message, read_data_with_time, read_data}
 use Rattle.commands.specs.Verbs.{read_filter, read_mask, read_ctrl0, read_ctrl1, read_btr0, read_btr1, read_messtat, read_err, read_intf, read_statf}
@@ -36,10 +34,6 @@ write_to c v k = row c 6 6 0 v k
 -- `table_rule` in proofs/Rows.
 abbrev pub factory : ℕ → Bool
 factory c = eqb c 0x4E || (eqb c 0xF4 || eqb c 0xF6)
-
--- what stands past the last row
-abbrev pub no_row : Row
-no_row = reset_row 0 0
 
 unfoldable pub rows : List Row
 rows =
@@ -115,9 +109,9 @@ rows =
     []
 
 -- the row whose command it is, the first if there were two
-abbrev pub lookup : List Row → ℕ → Found
-lookup [] c = Nothing
-lookup (r ∷ rs) c = pick (eqb r.command c) (At r) (lookup rs c)
+abbrev pub lookup : List Row → ℕ → Option Row
+lookup [] c = None
+lookup (r ∷ rs) c = pick (eqb r.command c) (Some r) (lookup rs c)
 
 -- the place of that row, past the last if there is none
 abbrev pub place_in : List Row → ℕ → ℕ

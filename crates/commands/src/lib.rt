@@ -2,13 +2,13 @@
 // and reply read it.
 #![tactic(auto)]
 
-ghost use Rattle.std.specs.Prelude.{◌≡◌, ◌<◌, get_or, length};
-ghost use Rattle.commands.specs.Table.{rows, no_row, lookup, place_in};
+ghost use Rattle.std.specs.Prelude.{◌≡◌, slice_get};
+ghost use Rattle.commands.specs.Table.{rows, lookup, place_in};
 
 mod table;
 pub mod verb;
 
-#[derive(Clone, Copy)]
+#[derive(Clone, Copy, Debug, PartialEq, Eq)]
 pub struct Row {
     pub command: u8,
     // The fewest and the most bytes after the command byte.
@@ -21,26 +21,19 @@ pub struct Row {
     pub index: u8,
 }
 
-#[derive(Clone, Copy)]
-pub enum Found {
-    At(Row),
-    Nothing,
-}
-
-#[tactic(auto, unfolding(crate::specs::Table::rows))]
-fn at(i: usize) -> Row
-    requires { i < length rows }
-    ensures { result ≡ get_or rows i no_row }
+// The row of a line of the table.
+fn at(i: usize) -> Option<Row>
+    ensures { result ≡ slice_get rows i }
 {
-    let row = table::ROWS[i];
-    Row {
-        command: row[0],
-        least: row[1],
-        most: row[2],
-        out: row[3],
-        verb: row[4],
-        index: row[5],
-    }
+    let [command, least, most, out, verb, index] = table::ROWS.get(i).copied()?;
+    Some(Row {
+        command,
+        least,
+        most,
+        out,
+        verb,
+        index,
+    })
 }
 
 // The place of the command's row. It is looked up and not searched for: a search took more time than all else that a
@@ -49,19 +42,12 @@ fn at(i: usize) -> Row
 fn place(command: u8) -> u8
     ensures { result ≡ place_in rows command }
 {
-    let line = (command / 8) as usize;
-    let column = (command % 8) as usize;
-    table::PLACES[line][column]
+    table::PLACES[(command / 8) as usize][(command % 8) as usize]
 }
 
 // The command's row.
-pub fn find(command: u8) -> Found
+pub fn find(command: u8) -> Option<Row>
     ensures { result ≡ lookup rows command }
 {
-    let i = place(command) as usize;
-    if i < table::COUNT {
-        Found::At(at(i))
-    } else {
-        Found::Nothing
-    }
+    at(place(command) as usize)
 }

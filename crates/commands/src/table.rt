@@ -3,7 +3,8 @@ use crate::verb;
 
 pub(crate) const COUNT: usize = 69;
 
-// Command, fewest and most bytes after it, bytes of its reply, what it is for, and of which filter or mask.
+// Command, fewest and most bytes after it, bytes of its reply, what it is for, and of which filter or mask. As numbers
+// a row is one line; a `Row` that is written out takes eight.
 pub(crate) const ROWS: [[u8; 6]; COUNT] = [
     [0x42, 0, 0, 15, verb::READ_TEMPORARY_WITH_TIME, 0],
     [0x44, 0, 0, 13, verb::READ_TEMPORARY, 0],
@@ -76,7 +77,7 @@ pub(crate) const ROWS: [[u8; 6]; COUNT] = [
     [0x84, 6, 6, 0, verb::WRITE_MASK, 7],
 ];
 
-// Past the last row: the place of a byte that is no command.
+// Past the last row: the place of a byte that is no command. An Option would make the table below twice as wide.
 const NONE: u8 = COUNT as u8;
 
 // Where each command's row stands, eight command bytes to a line.

@@ -1,4 +1,5 @@
-// What a command is for, as the table and the dispatch on it name it.
+// What a command is for, as the table and the dispatch on it name it. It is a number and no enum, since `shown::shows`
+// and `done::does` promise an answer for every byte that stands in a verb's place.
 pub const READ_TEMPORARY_WITH_TIME: u8 = 0;
 
 pub const READ_TEMPORARY: u8 = 1;

@@ -1,12 +1,12 @@
 -- What each command does to the device (01, Transfers, and the rules of transmit, modes and flags; 000, Table 1).
 -- `bytes` is the whole transfer: byte 1 is the command.
-use Rattle.std.specs.Prelude.{List, [], ◌∷◌, ℕ, ◌%◌, eqb, length, drop, set}
+use Rattle.std.specs.Prelude.{List, [], ◌∷◌, ℕ, ◌%◌, eqb, length, drop, set, unwrap_or}
 use Rattle.base.specs.Bit.{byte}
 use Rattle.base.specs.Pick.{pick, among}
 use Rattle.counters.specs.Rules.{test_rec, test_tec}
 use Rattle.fifo.specs.declared.Message.{Message}
 use Rattle.fifo.specs.Queue.{empty, put, take}
-use Rattle.to_send.specs.ToSend.{message_of, stored}
+use Rattle.to_send.specs.ToSend.{message_of, no_message, stored}
 use Rattle.chip.specs.declared.Device.{Device}
 use Rattle.chip.specs.declared.Pattern.{Pattern}
 use Rattle.chip.specs.declared.Registers.{Registers}
@@ -63,7 +63,7 @@ time_reset d = with_time d 0
 
 -- the message of 0x12, as it is kept
 abbrev pub message_brought : List ℕ → Message
-message_brought bytes = record { bytes = stored (message_of (drop 1 bytes)).message }
+message_brought bytes = record { bytes = stored (unwrap_or (message_of (drop 1 bytes)) no_message) }
 
 -- 0x12: the message comes last in the transmit FIFO. Without a command byte there is none.
 unfoldable pub message_written : Device → List ℕ → Device

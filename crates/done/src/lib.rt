@@ -1,9 +1,8 @@
 // What a command does to the device.
 #![tactic(auto)]
 
-ghost use Rattle.std.specs.Prelude.{◌≡◌};
-ghost use Rattle.done.specs.Done.{pattern, registers_after, message_written, filter_written, mask_written, message_taken};
-ghost use Rattle.done.specs.Done.{receive_cleared, entry_taken, time_reset, rec_written, tec_written, register_changed, does};
+ghost use Rattle.std.specs.Prelude.{◌≡◌, ◌%◌, set};
+ghost use Rattle.done.specs.Done.{pattern, registers_after, message_written, does};
 
 use chip::{Device, Pattern, Registers};
 use commands::verb;
@@ -15,14 +14,7 @@ fn pattern(bytes: &[u8]) -> Pattern
     ensures { result ≡ pattern bytes.now }
 {
     Pattern {
-        bytes: [
-            base::at(bytes, 1),
-            base::at(bytes, 2),
-            base::at(bytes, 3),
-            base::at(bytes, 4),
-            base::at(bytes, 5),
-            base::at(bytes, 6),
-        ],
+        bytes: std::array::from_fn(|k| base::at(bytes, k + 1)),
     }
 }
 
@@ -49,138 +41,73 @@ fn registers_after(r: Registers, v: u8, value: u8) -> Registers
 fn message_written(d: Device, bytes: &[u8]) -> Device
     ensures { result ≡ message_written d bytes.now }
 {
-    if bytes.len() == 0 {
+    if bytes.is_empty() {
         return d;
     }
-    let reading = to_send::message_of(&bytes[1..]);
-    let message = reading.message;
+    let message = to_send::message_of(&bytes[1..]).unwrap_or_default();
     let bytes = to_send::stored(message);
-    let tx = d.tx;
-    let longer = fifo::put(tx, Message { bytes });
-    let mut e = d;
-    e.tx = longer;
-    e
+    Device {
+        tx: fifo::put(d.tx, Message { bytes }),
+        ..d
+    }
 }
 
-#[tactic(auto, using(base::specs::Pick::picks, base::specs::Pick::judges), unfolding(crate::specs::Done::filter_written))]
-fn filter_written(d: Device, k: u8, p: Pattern) -> Device
-    ensures { result ≡ filter_written d k p }
+// A bank of filters or masks with a pattern at its place.
+fn with_pattern(bank: [Pattern; 8], k: u8, p: Pattern) -> [Pattern; 8]
+    ensures { result ≡ set bank (k % 8) p }
 {
-    let place = (k % 8) as usize;
-    let mut filters = d.filters;
-    filters[place] = p;
-    let mut e = d;
-    e.filters = filters;
-    e
-}
-
-#[tactic(auto, using(base::specs::Pick::picks, base::specs::Pick::judges), unfolding(crate::specs::Done::mask_written))]
-fn mask_written(d: Device, k: u8, p: Pattern) -> Device
-    ensures { result ≡ mask_written d k p }
-{
-    let place = (k % 8) as usize;
-    let mut masks = d.masks;
-    masks[place] = p;
-    let mut e = d;
-    e.masks = masks;
-    e
-}
-
-#[tactic(auto, unfolding(crate::specs::Done::message_taken))]
-fn message_taken(d: Device) -> Device
-    ensures { result ≡ message_taken d }
-{
-    let rx = d.rx;
-    let shorter = fifo::take(rx);
-    let mut e = d;
-    e.rx = shorter;
-    e
-}
-
-#[tactic(auto, using(base::specs::Pick::picks, base::specs::Pick::judges), unfolding(crate::specs::Done::receive_cleared))]
-fn receive_cleared(d: Device) -> Device
-    ensures { result ≡ receive_cleared d }
-{
-    let none = fifo::empty();
-    let mut e = d;
-    e.rx = none;
-    e
-}
-
-#[tactic(auto, using(base::specs::Pick::picks, base::specs::Pick::judges), unfolding(crate::specs::Done::entry_taken))]
-fn entry_taken(d: Device) -> Device
-    ensures { result ≡ entry_taken d }
-{
-    let history = d.history;
-    let shorter = fifo::take(history);
-    let mut e = d;
-    e.history = shorter;
-    e
-}
-
-#[tactic(auto, using(base::specs::Pick::picks, base::specs::Pick::judges), unfolding(crate::specs::Done::time_reset))]
-fn time_reset(d: Device) -> Device
-    ensures { result ≡ time_reset d }
-{
-    let mut e = d;
-    e.time = 0;
-    e
-}
-
-#[tactic(auto, using(base::specs::Pick::picks, base::specs::Pick::judges), unfolding(crate::specs::Done::rec_written))]
-fn rec_written(d: Device, value: u8) -> Device
-    ensures { result ≡ rec_written d value }
-{
-    let c = counters::test_rec(d.counters, value);
-    let mut e = d;
-    e.counters = c;
-    e
-}
-
-#[tactic(auto, using(base::specs::Pick::picks, base::specs::Pick::judges), unfolding(crate::specs::Done::tec_written))]
-fn tec_written(d: Device, value: u8) -> Device
-    ensures { result ≡ tec_written d value }
-{
-    let c = counters::test_tec(d.counters, value);
-    let mut e = d;
-    e.counters = c;
-    e
-}
-
-#[tactic(auto, using(base::specs::Pick::picks, base::specs::Pick::judges), unfolding(crate::specs::Done::register_changed))]
-fn register_changed(d: Device, v: u8, value: u8) -> Device
-    ensures { result ≡ register_changed d v value }
-{
-    let regs = d.regs;
-    let after = registers_after(regs, v, value);
-    let mut e = d;
-    e.regs = after;
-    e
+    let mut patterns = bank;
+    patterns[usize::from(k % 8)] = p;
+    patterns
 }
 
 // The device after a command, whose bytes are these with the command byte.
-#[tactic(auto, using(base::specs::Pick::picks, base::specs::Pick::judges), unfolding(crate::specs::Done::does))]
+#[tactic(auto, using(base::specs::Pick::picks, base::specs::Pick::judges), unfolding(crate::specs::Done::does, crate::specs::Done::message_taken, crate::specs::Done::entry_taken, crate::specs::Done::receive_cleared, crate::specs::Done::time_reset, crate::specs::Done::filter_written, crate::specs::Done::mask_written, crate::specs::Done::rec_written, crate::specs::Done::tec_written, crate::specs::Done::register_changed))]
 pub fn does(d: Device, v: u8, k: u8, bytes: &[u8]) -> Device
     ensures { result ≡ does d v k bytes.now }
 {
     let value = base::at(bytes, 1);
     match v {
-        verb::READ_MESSAGE_WITH_TIME => message_taken(d),
-        verb::READ_MESSAGE => message_taken(d),
-        verb::READ_DATA_WITH_TIME => message_taken(d),
-        verb::READ_DATA => message_taken(d),
-        verb::READ_HISTORY => entry_taken(d),
+        verb::READ_MESSAGE_WITH_TIME
+        | verb::READ_MESSAGE
+        | verb::READ_DATA_WITH_TIME
+        | verb::READ_DATA => Device {
+            rx: fifo::take(d.rx),
+            ..d
+        },
+        verb::READ_HISTORY => Device {
+            history: fifo::take(d.history),
+            ..d
+        },
         verb::ABORT_TRANSMISSION => transmit::aborted(d),
         verb::CLEAR_TRANSMIT => transmit::cleared(d),
         verb::MASTER_RESET => flags::reset(d),
-        verb::RESET_TIME => time_reset(d),
-        verb::CLEAR_RECEIVE => receive_cleared(d),
+        verb::RESET_TIME => Device { time: 0, ..d },
+        verb::CLEAR_RECEIVE => Device {
+            rx: fifo::empty(),
+            ..d
+        },
         verb::WRITE_MESSAGE => message_written(d, bytes),
         verb::WRITE_CTRL0 => modes::ctrl0_written(d, value),
-        verb::WRITE_REC => rec_written(d, value),
-        verb::WRITE_TEC => tec_written(d, value),
-        verb::WRITE_FILTER => filter_written(d, k, pattern(bytes)),
-        verb::WRITE_MASK => mask_written(d, k, pattern(bytes)),
-        _ => register_changed(d, v, value),
+        verb::WRITE_REC => Device {
+            counters: counters::test_rec(d.counters, value),
+            ..d
+        },
+        verb::WRITE_TEC => Device {
+            counters: counters::test_tec(d.counters, value),
+            ..d
+        },
+        verb::WRITE_FILTER => Device {
+            filters: with_pattern(d.filters, k, pattern(bytes)),
+            ..d
+        },
+        verb::WRITE_MASK => Device {
+            masks: with_pattern(d.masks, k, pattern(bytes)),
+            ..d
+        },
+        _ => Device {
+            regs: registers_after(d.regs, v, value),
+            ..d
+        },
     }
 }

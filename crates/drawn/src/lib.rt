@@ -1,8 +1,7 @@
 // What the registers and pins show of the device, drawn anew at each look.
 #![tactic(auto)]
 
-ghost use Rattle.std.specs.Prelude.{◌≡◌, ◌<◌};
-ghost use Rattle.base.specs.Bit.{is_set};
+ghost use Rattle.std.specs.Prelude.{◌≡◌};
 ghost use Rattle.drawn.specs.Drawn.{statf, err, tstat, messtat, share, int, stat, gp};
 
 use chip::{Device, IDLE};
@@ -28,23 +27,21 @@ pub fn statf(d: Device) -> u8
 pub fn err(d: Device) -> u8
     ensures { result ≡ err d }
 {
-    let c = d.counters;
-    levels::level_bits(c) + d.regs.errs % 32
+    levels::level_bits(d.counters) + d.regs.errs % 32
 }
 
 #[tactic(auto, using(base::specs::Pick::picks, base::specs::Pick::judges), unfolding(crate::specs::Drawn::tstat))]
 fn tstat(d: Device) -> u8
     ensures { result ≡ tstat d }
 {
-    let sending = d.sending;
-    if sending == IDLE {
-        if chip::enabled(d) {
-            if fifo::is_empty(d.tx) { 1 } else { 2 }
-        } else {
-            0
-        }
-    } else {
+    if d.sending != IDLE {
         3
+    } else if !chip::enabled(d) {
+        0
+    } else if fifo::is_empty(d.tx) {
+        1
+    } else {
+        2
     }
 }
 
@@ -61,13 +58,6 @@ fn share(a: u8, b: u8) -> bool
     ensures { result ≡ share a b }
 {
     a & b != 0
-}
-
-fn is_set(i: u8, x: u8) -> bool
-    requires { i < 8 }
-    ensures { result ≡ is_set i x }
-{
-    (x >> i) % 2 == 1
 }
 
 // The INT pin.
@@ -93,8 +83,8 @@ pub fn gp(d: Device, half: u8) -> bool
 {
     let flag = half % 16;
     if flag < 8 {
-        is_set(flag, d.regs.intf)
+        base::is_set(flag, d.regs.intf)
     } else {
-        is_set(flag - 8, statf(d))
+        base::is_set(flag - 8, statf(d))
     }
 }

@@ -3,17 +3,17 @@
 
 use frame::Header;
 
-// What went wrong on the bus, by ERR's bits 0 to 4.
-#[derive(Clone, Copy)]
+// What went wrong on the bus, by its bit in ERR: 0 to 4.
+#[derive(Clone, Copy, Debug, PartialEq, Eq)]
 pub enum ErrorKind {
-    Stuff,
-    Ack,
-    Crc,
-    Form,
-    Bit,
+    Stuff = 1,
+    Ack = 2,
+    Crc = 4,
+    Form = 8,
+    Bit = 16,
 }
 
-#[derive(Clone, Copy)]
+#[derive(Clone, Copy, Debug, PartialEq, Eq)]
 pub enum Event {
     // The header, whether another node acknowledged it, and how many of the payload's bytes were given.
     GoodFrame(Header, bool, usize),

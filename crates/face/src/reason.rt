@@ -1,107 +1,72 @@
 // What is told of a frame that is explained: the answer, and where each filter differs. The command `why` adds to the
 // answer what it means and what to do.
-use crate::answers::word;
-use crate::device;
-use crate::text::{decimal, numbered, raw, text};
+use crate::answers::Word;
+use crate::page::Page;
+use bus::types::Answer;
 use chip::{Device, LOOPBACK, SLEEP};
-use frame::Header;
-use judged::Answer;
 use receive::Arrival;
-use why::{Field, Place};
+use std::fmt;
+use why::{Field, Place, Why};
+
+pub(crate) fn tell(d: Device, why: &Why, page: &mut Page) {
+    answer(d, why.answer, page);
+    for (filter, place) in why.places.iter().enumerate() {
+        if let Some(place) = place {
+            page.line(format_args!("filter {filter}: {}", Difference(place)));
+        }
+    }
+}
+
+fn answer(d: Device, answer: Answer, page: &mut Page) {
+    match answer {
+        Ok(Some(Arrival::A1)) => page.line(format_args!("A1, {}", mode(d))),
+        Ok(Some(what)) => page.line(Word(what)),
+        Ok(None) => page.line("0"),
+        Err(refusal) => page.line(refusal.number()),
+    }
+}
 
 // The modes that take no frames are told apart, since what helps differs.
-fn mode(out: &mut [u8], at: usize, d: Device) -> usize {
-    let acting = d.acting;
-    if acting == SLEEP {
-        if chip::wakeup(d) {
-            text(out, at, b", sleep with WAKEUP")
-        } else {
-            text(out, at, b", sleep")
+fn mode(d: Device) -> &'static str {
+    match d.acting {
+        SLEEP if chip::wakeup(d) => "sleep with WAKEUP",
+        SLEEP => "sleep",
+        LOOPBACK => "loopback",
+        _ => "initialization",
+    }
+}
+
+// As `byte 2 bit 4 (RTR: the filter asks for 0, the frame has 1)`.
+#[derive(Clone, Copy)]
+struct Difference<'a>(&'a Place);
+
+impl fmt::Display for Difference<'_> {
+    fn fmt<W: fmt::Write>(&self, f: &mut fmt::Formatter<W>) -> fmt::Result {
+        let Place {
+            byte,
+            bit,
+            wanted,
+            came,
+        } = *self.0;
+        let field = Name(why::field_at(byte, bit));
+        write!(
+            f,
+            "byte {byte} bit {bit} ({field}: the filter asks for {wanted}, the frame has {came})"
+        )
+    }
+}
+
+#[derive(Clone, Copy)]
+struct Name(Field);
+
+impl fmt::Display for Name {
+    fn fmt<W: fmt::Write>(&self, f: &mut fmt::Formatter<W>) -> fmt::Result {
+        match self.0 {
+            Field::Id(i) => write!(f, "ID{i}"),
+            Field::Rtr => f.write_str("RTR"),
+            Field::Ide => f.write_str("IDE"),
+            Field::Data(i) => write!(f, "data byte {i}"),
+            Field::Unnamed => f.write_str("no field"),
         }
-    } else if acting == LOOPBACK {
-        text(out, at, b", loopback")
-    } else {
-        text(out, at, b", initialization")
     }
-}
-
-fn is_a1(what: Arrival) -> bool {
-    match what {
-        Arrival::A1 => true,
-        _ => false,
-    }
-}
-
-fn arrival(out: &mut [u8], at: usize, d: Device, what: Arrival) -> usize {
-    let n = word(out, at, what);
-    if is_a1(what) { mode(out, n, d) } else { n }
-}
-
-fn answer(out: &mut [u8], at: usize, d: Device, a: Answer) -> usize {
-    match a {
-        Answer::Refused(n) => decimal(out, at, n as u64),
-        Answer::Done => text(out, at, b"0"),
-        Answer::Arrived(what) => arrival(out, at, d, what),
-    }
-}
-
-fn field(out: &mut [u8], at: usize, f: Field) -> usize {
-    match f {
-        Field::Id(i) => numbered(out, at, b"ID", i as u64),
-        Field::Rtr => text(out, at, b"RTR"),
-        Field::Ide => text(out, at, b"IDE"),
-        Field::Data(i) => numbered(out, at, b"data byte ", i as u64),
-        Field::Unnamed => text(out, at, b"no field"),
-    }
-}
-
-fn place(out: &mut [u8], at: usize, filter: u8, byte: u8, bit: u8) -> usize {
-    let n = numbered(out, at, b"filter ", filter as u64);
-    let n = numbered(out, n, b": byte ", byte as u64);
-    numbered(out, n, b" bit ", bit as u64)
-}
-
-fn values(out: &mut [u8], at: usize, p: Place) -> usize {
-    let n = numbered(out, at, b": the filter asks for ", p.wanted as u64);
-    let n = numbered(out, n, b", the frame has ", p.came as u64);
-    text(out, n, b")")
-}
-
-// As `filter 0: byte 2 bit 4 (RTR: the filter asks for 0, the frame has 1)`.
-fn difference(out: &mut [u8], at: usize, filter: u8, p: Place) -> usize {
-    let byte = p.byte;
-    let bit = p.bit;
-    if byte == 0 {
-        return at;
-    }
-    let n = place(out, at, filter, byte, bit);
-    let n = text(out, n, b" (");
-    let n = field(out, n, why::field_at(byte, bit));
-    let n = values(out, n, p);
-    raw(out, n, b'\n')
-}
-
-fn differences(out: &mut [u8], at: usize, places: [Place; 8]) -> usize {
-    let mut n = at;
-    for k in 0..8 {
-        n = difference(out, n, k as u8, places[k]);
-    }
-    n
-}
-
-pub(crate) fn explained(
-    d: Device,
-    h: Header,
-    acknowledged: bool,
-    given: usize,
-    data: [u8; 16],
-    out: &mut [u8],
-    at: usize,
-) -> usize {
-    let w = device::explained(d, h, acknowledged, given, data);
-    let a = w.answer;
-    let places = w.places;
-    let n = answer(out, at, d, a);
-    let n = raw(out, n, b'\n');
-    differences(out, n, places)
 }

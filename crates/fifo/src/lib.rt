@@ -4,12 +4,15 @@
 ghost use Rattle.std.specs.Prelude.{◌≡◌};
 ghost use Rattle.fifo.specs.Queue.{empty, eight_wait, none_waits, full, is_empty, place, put, latest_place, place_over, put_over, take, next, latest, in_range};
 
-// Sixteen bytes, as 000's Table 5 lays out a message; in a message to send, byte 1 is its tag.
-#[derive(Clone, Copy)]
+// Sixteen bytes, as 000's Table 5 lays out a message; in a message to send, byte 1 is its tag. The default is what an
+// empty place holds.
+#[derive(Clone, Copy, Default)]
 pub struct Message {
     pub bytes: [u8; 16],
 }
 
+// A ring of eight places, in fixed memory. Its first place and its count are plain bytes with no invariant: `in_range`
+// answers of any, and `chip::proper` refuses those that no queue has.
 #[derive(Clone, Copy)]
 pub struct Fifo {
     pub items: [Message; 8],
@@ -22,9 +25,8 @@ pub struct Fifo {
 pub fn empty() -> Fifo
     ensures { result ≡ empty }
 {
-    let none = Message { bytes: [0; 16] };
     Fifo {
-        items: [none; 8],
+        items: [Message::default(); 8],
         first: 0,
         count: 0,
     }
@@ -67,16 +69,13 @@ pub fn place(q: Fifo, steps: u16) -> usize
 pub fn put(q: Fifo, m: Message) -> Fifo
     ensures { result ≡ put q m }
 {
-    let count = q.count;
     if full(q) {
-        q
-    } else {
-        let behind = place(q, count as u16);
-        let mut p = q;
-        p.items[behind] = m;
-        p.count = count + 1;
-        p
+        return q;
     }
+    let mut p = q;
+    p.items[place(p, p.count as u16)] = m;
+    p.count += 1;
+    p
 }
 
 // Seven steps on from the place behind the latest message, which is one step back.
@@ -104,9 +103,8 @@ pub fn put_over(q: Fifo, m: Message) -> Fifo
     ensures { result ≡ put_over q m }
 {
     if full(q) {
-        let last = latest_place(q);
         let mut p = q;
-        p.items[last] = m;
+        p.items[latest_place(q)] = m;
         p
     } else {
         put(q, m)
@@ -118,14 +116,12 @@ pub fn put_over(q: Fifo, m: Message) -> Fifo
 pub fn take(q: Fifo) -> Fifo
     ensures { result ≡ take q }
 {
-    let count = q.count;
     if is_empty(q) {
         q
     } else {
-        let first = place(q, 1);
         Fifo {
-            first: first as u8,
-            count: count - 1,
+            first: place(q, 1) as u8,
+            count: q.count - 1,
             ..q
         }
     }
@@ -136,8 +132,7 @@ pub fn take(q: Fifo) -> Fifo
 pub fn next(q: Fifo) -> Message
     ensures { result ≡ next q }
 {
-    let first = place(q, 0);
-    q.items[first]
+    q.items[place(q, 0)]
 }
 
 // The latest message.
@@ -145,8 +140,7 @@ pub fn next(q: Fifo) -> Message
 pub fn latest(q: Fifo) -> Message
     ensures { result ≡ latest q }
 {
-    let last = latest_place(q);
-    q.items[last]
+    q.items[latest_place(q)]
 }
 
 // Whether the count and the place are ones that a queue of eight can have.

@@ -1,23 +1,25 @@
 -- A test of whole numbers, `(x ^ f) & m == 0`, says what `agree` says of their bits: one argument over the number of
--- bits. Then six such bytes are the 48 places. Assumes nothing.
+-- bits. Then bytes in turn are eight places each. Assumes nothing.
 use mathlib.Core.Path.{◌≡◌, refl, sym, ap, ap₂, ◌∙◌}
 use mathlib.Core.Bool.{Bool, true, false, ◌&&◌, ◌||◌}
-use mathlib.Core.List.{List}
+use mathlib.Core.List.{List, [], ◌∷◌}
 use Prim.Native.Nat.{ℕ, zero, suc, pred, ◌+◌, ◌*◌, ◌-◌, ◌/◌, ◌%◌, ◌^◌, ◌<◌, min}
 use native.Mathlib.Nat.{zero-mul, zero-add, zero-min, min-zero, suc-min-suc, sub_self, mul-div_cancel, zero-lt-suc}
 use native.Mathlib.Numerals.{add-one}
 use native.Mathlib.Omega.{arith}
-use borrow.Author.Tests.{eq-eqb, ne_eqb, eqb-true, eqb-false}
+use borrow.Author.Tests.{ne_eqb, eqb-true, eqb-false}
 use lib.Arith.{lt-one, digits_mod}
 use lib.Bits.{bit_and, bit_xor, differ, and_step, and_zero_r, xor_step, xor_shr}
 use lib.Dec.{eqb, eqb-zero-suc, eqb-suc-zero, eqb-suc-suc}
-use lib.ListN.{get_or}
+use lib.ListN.{get_or, length, length-set}
+use lib.Seq.{get_or-set_same, get_or-set_other}
 use lib.Pow.{shr_lt}
 use Rattle.base.specs.Bit.{bit}
 use Rattle.base.specs.Pick.{pick}
-use Rattle.base.proofs.Bits.{bit_zero, bit_suc}
-use Rattle.filter.specs.Match.{agree, bit_from_top, bit_at_place, uncounted, counted_of, counted_byte}
-use Rattle.filter.proofs.Agree.{agree_alike, agree_more}
+use Rattle.std.proofs.lemmas.Nat.Bits.{bit_at_lowest, bit_at-suc}
+use Rattle.filter.specs.Match.{agree, bit_from_top, bit_at_place, uncounted, counted_of, counted, matches}
+use Rattle.filter.proofs.Agree.{agree_alike, agree_more, from}
+use Rattle.std.specs.List.{list_all, zip}
 
 -- ---- one digit
 
@@ -51,13 +53,13 @@ highest n x k = bit (pred n - k) x
 
 -- bit n - k of x is a bit of x / 2, but for the last
 under : (n x k : ℕ) → k < n → highest (suc n) x k ≡ highest n (x / 2) k
-under n x k l = ap (λ (i : ℕ). bit i x) place ∙ bit_suc (pred n - k) x
+under n x k l = ap (λ (i : ℕ). bit i x) place ∙ bit_at-suc x (pred n - k)
   where
     place : n - k ≡ suc (pred n - k)
     place = omega arith
 
 lowest_digit : (n x : ℕ) → highest (suc n) x n ≡ x % 2
-lowest_digit n x = ap (λ (i : ℕ). bit i x) (sub_self n) ∙ bit_zero x
+lowest_digit n x = ap (λ (i : ℕ). bit i x) (sub_self n) ∙ bit_at_lowest x
 
 digits : (x f m : ℕ) → bit_and (bit_xor x f) m ≡ bit_and (bit_xor (x / 2) (f / 2)) (m / 2) * 2 + min (differ (x % 2) (f % 2)) (m % 2)
 digits x f m =
@@ -81,53 +83,88 @@ whole_agrees (suc n) x f m h =
         masked (differ (x % 2) (f % 2)) (m % 2)
         ∙ rw (differ_eqb (x % 2) (f % 2), lowest_digit n m, lowest_digit n x, lowest_digit n f)
 
--- ---- six bytes of eight places
+-- ---- bytes of eight places
 
-module _ (j : ℕ) where
-  place : (bytes : List ℕ) (k : ℕ) → k < 8 → bit_at_place bytes (8 * j + k) ≡ bit_from_top (get_or bytes j 0) k
-  place bytes k l = ap₂ (λ (b i : ℕ). bit_from_top (get_or bytes b 0) i) byte inside
-    where
-      byte : (8 * j + k) / 8 ≡ j
-      byte = omega arith
+module _ (x : ℕ) (bytes : List ℕ) (k : ℕ) where
+  first_byte : k < 8 → bit_at_place (x ∷ bytes) k ≡ bit_from_top x k
+  first_byte l =
+      let which : k / 8 ≡ 0 = omega arith in
+      let inside : k % 8 ≡ k = omega arith in
+      rw (which, inside)
 
-      inside : (8 * j + k) % 8 ≡ k
-      inside = omega arith
+  later_byte : bit_at_place (x ∷ bytes) (8 + k) ≡ bit_at_place bytes k
+  later_byte =
+      let which : (8 + k) / 8 ≡ suc (k / 8) = omega arith in
+      let inside : (8 + k) % 8 ≡ k % 8 = omega arith in
+      rw (which, inside)
 
-  -- all bits of x / 2 * 2 but the last are x's
-  above : (x k : ℕ) → k < 7 → bit_from_top (x / 2 * 2) k ≡ bit_from_top x k
-  above x k l =
-      rw place_of
-      (bit_suc (6 - k) (x / 2 * 2) ∙ ap (bit (6 - k)) (mul-div_cancel (x / 2) (zero-lt-suc 1)) ∙ sym (bit_suc (6 - k) x))
-    where
-      place_of : 7 - k ≡ suc (6 - k)
-      place_of = omega arith
+-- what is asked of a frame's byte, a filter's and a mask's
+abbrev pub alike_bytes : (ℕ × ℕ) × ℕ → Bool
+alike_bytes b = agree 8 (bit_from_top b.0.0) (bit_from_top b.0.1) (bit_from_top b.1)
 
-  module _ (mask : List ℕ) (k : ℕ) (l : k < 8) where
-    abbrev x : ℕ
-    x = get_or mask j 0
+-- and of all of them in turn, by the places
+pub bytes_agree : (v f m : List ℕ) → length f ≡ length v → length m ≡ length v
+    → list_all alike_bytes (zip (zip v f) m) ≡ agree (8 * length v) (bit_at_place v) (bit_at_place f) (bit_at_place m)
+bytes_agree [] f m p q = refl
+bytes_agree (x ∷ v) [] m p q = absurd (omega (arith, p))
+bytes_agree (x ∷ v) (y ∷ f) [] p q = absurd (omega (arith, q))
+bytes_agree (x ∷ v) (y ∷ f) (z ∷ m) p q =
+    ap₂ ◌&&◌ (sym front) (bytes_agree v f m (omega (arith, p)) (omega (arith, q)) ∙ sym behind)
+    ∙ sym (agree_more (8 * length v) 8 _ _ _)
+    ∙ ap (λ (n : ℕ). agree n (bit_at_place (x ∷ v)) (bit_at_place (y ∷ f)) (bit_at_place (z ∷ m))) more
+  where
+    more : 8 + 8 * length v ≡ 8 * suc (length v)
+    more = omega arith
 
-    in_fourth : (last : Bool) → eqb k 7 ≡ last → j ≡ 3 → counted_of mask (8 * j + k) ≡ bit_from_top (x / 2 * 2) k
-    in_fourth true e h =
-        let seventh : k ≡ 7 = eqb-true k 7 e in
-        rw (eq-eqb (8 * j + k) uncounted (omega arith), seventh) (sym (bit_zero (x / 2 * 2) ∙ omega arith))
-    in_fourth false e h =
-        let other : k ≡ 7 → ⊥ = eqb-false k 7 e in
-        rw (ne_eqb (8 * j + k) uncounted (λ q. omega arith)) (place mask k l ∙ sym (above x k (omega arith)))
+    front : agree 8 (bit_at_place (x ∷ v)) (bit_at_place (y ∷ f)) (bit_at_place (z ∷ m)) ≡ alike_bytes ((x, y), z)
+    front =
+        agree_alike 8 _ _ _ _ _ _
+        (λ k l. record { frame = first_byte x v k l; filter = first_byte y f k l; mask = first_byte z m k l })
 
-    counted_place' : (fourth : Bool) → eqb j 3 ≡ fourth → counted_of mask (8 * j + k) ≡ bit_from_top (pick fourth (x / 2 * 2) x) k
-    counted_place' true e = in_fourth (eqb k 7) refl (eqb-true j 3 e)
-    counted_place' false e =
-        let other : j ≡ 3 → ⊥ = eqb-false j 3 e in
-        rw (ne_eqb (8 * j + k) uncounted (λ q. omega arith)) (place mask k l)
+    behind : agree (8 * length v) (from 8 (bit_at_place (x ∷ v))) (from 8 (bit_at_place (y ∷ f))) (from 8 (bit_at_place (z ∷ m)))
+        ≡ agree (8 * length v) (bit_at_place v) (bit_at_place f) (bit_at_place m)
+    behind =
+        agree_alike (8 * length v) _ _ _ _ _ _
+        (λ k l. record { frame = later_byte x v k; filter = later_byte y f k; mask = later_byte z m k })
 
-    counted_place : counted_of mask (8 * j + k) ≡ bit_from_top (counted_byte j x) k
-    counted_place = counted_place' (eqb j 3) refl
+-- ---- the bit that doesn't count
 
-  -- byte j's eight places, after those of the bytes before it
-  pub byte_more : (v f m : List ℕ) → agree (8 * j + 8) (bit_at_place v) (bit_at_place f) (counted_of m)
-      ≡ (agree (8 * j) (bit_at_place v) (bit_at_place f) (counted_of m)
-      && agree 8 (bit_from_top (get_or v j 0)) (bit_from_top (get_or f j 0)) (bit_from_top (counted_byte j (get_or m j 0))))
-  byte_more v f m =
-      agree_more 8 (8 * j) (bit_at_place v) (bit_at_place f) (counted_of m)
-      ∙ ap (λ (b : Bool). agree (8 * j) (bit_at_place v) (bit_at_place f) (counted_of m) && b)
-      (agree_alike 8 _ _ _ _ _ _ (λ k l. record { frame = place v k l; filter = place f k l; mask = counted_place m k l }))
+-- all bits of x / 2 * 2 but the last are x's
+above : (x k : ℕ) → k < 7 → bit_from_top (x / 2 * 2) k ≡ bit_from_top x k
+above x k l =
+    rw place_of
+    (bit_at-suc (x / 2 * 2) (6 - k) ∙ ap (bit (6 - k)) (mul-div_cancel (x / 2) (zero-lt-suc 1)) ∙ sym (bit_at-suc x (6 - k)))
+  where
+    place_of : 7 - k ≡ suc (6 - k)
+    place_of = omega arith
+
+module _ (mask : List ℕ) (long : 3 < length mask) where
+  abbrev x : ℕ
+  x = get_or mask 3 0
+
+  fourth : get_or (counted mask) 3 0 ≡ x / 2 * 2
+  fourth = get_or-set_same mask 3 (x / 2 * 2) 0 long
+
+  elsewhere : (k : ℕ) (there : Bool) → eqb (k / 8) 3 ≡ there → (k ≡ 31 → ⊥) → bit_at_place (counted mask) k ≡ bit_at_place mask k
+  elsewhere k true e other =
+      let which : k / 8 ≡ 3 = eqb-true (k / 8) 3 e in
+      rw (which, fourth) (above x (k % 8) (omega (arith, which, other)))
+  elsewhere k false e other = rw (get_or-set_other mask 3 (k / 8) (x / 2 * 2) 0 (eqb-false (k / 8) 3 e))
+
+  at_uncounted : (k : ℕ) (last : Bool) → eqb k uncounted ≡ last → bit_at_place (counted mask) k ≡ pick last 0 (bit_at_place mask k)
+  at_uncounted k true e = rw (eqb-true k uncounted e, fourth) (bit_at_lowest (x / 2 * 2) ∙ omega arith)
+  at_uncounted k false e = elsewhere k (eqb (k / 8) 3) refl (eqb-false k uncounted e)
+
+  pub counted_place : (k : ℕ) → bit_at_place (counted mask) k ≡ counted_of mask k
+  counted_place k = at_uncounted k (eqb k uncounted) refl
+
+-- ---- six bytes are the 48 places
+
+pub six_agree : (v f m : List ℕ) → length v ≡ 6 → length f ≡ 6 → length m ≡ 6 → list_all alike_bytes (zip (zip v f) (counted m)) ≡ matches v f m
+unfolding matches
+six_agree v f m p q r =
+    let long : 3 < length m = omega arith in
+    bytes_agree v f (counted m) (omega arith) (omega (arith, length-set m 3 (get_or m 3 0 / 2 * 2)))
+    ∙ ap (λ (n : ℕ). agree (8 * n) (bit_at_place v) (bit_at_place f) (bit_at_place (counted m))) p
+    ∙ agree_alike 48 (bit_at_place v) (bit_at_place f) _ (bit_at_place v) (bit_at_place f) _
+    (λ k l. record { frame = refl; filter = refl; mask = counted_place m long k })

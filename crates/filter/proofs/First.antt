@@ -3,13 +3,13 @@
 use mathlib.Core.Path.{◌≡◌, refl, sym, ◌∙◌}
 use mathlib.Core.Bool.{Bool, true, false, not, ◌&&◌, ◌||◌, false≢true}
 use mathlib.Core.List.{List}
-use Prim.Native.Nat.{ℕ, zero, suc, ◌+◌, ◌-◌, ◌<◌, ◌≤◌}
+use Prim.Native.Nat.{ℕ, zero, suc, ◌+◌, ◌<◌, ◌≤◌}
 use native.Mathlib.Nat.{add-zero, add-suc, suc-add, le_refl, eq-or-lt_of_le, le_of_suc-le-suc}
-use native.Mathlib.Numerals.{add-one}
 use native.Mathlib.Omega.{arith}
-use borrow.Author.Tests.{eq-eqb, ne_eqb}
+use borrow.Author.Tests.{eq-eqb, ne_eqb, lt-ltb, le-ltb, ltb-true, ltb-false}
 use mathlib.Core.Logic.{⊎_elim}
-use lib.Dec.{eqb}
+use lib.Dec.{eqb, ltb}
+use Rattle.std.specs.Prelude.{Option, Some, None, is_none, MatchOption}
 use Rattle.base.specs.Pick.{pick}
 use Rattle.base.proofs.Booleans.{pick_keeps, pick_under}
 use Rattle.filter.specs.Match.{agree, bit_at_place, counted_of, matches}
@@ -43,13 +43,21 @@ module _ (says : ℕ → Bool) where
       (omega arith)
       (omega (arith, first_within n (suc k)))
 
--- ---- of n places, a turn of the loop
-
-pub first_turn : (says : ℕ → Bool) (n k : ℕ) (b : Bool) → k < n → says k ≡ b
-    → first_from (n - k) k says ≡ pick b k (first_from (n - (k + 1)) (k + 1) says)
-first_turn says n k b l is =
-    let left : n - k ≡ suc (n - (k + 1)) = omega arith in
-    rw (left, add-one k, is)
+  -- so it is what a search from 0 up finds
+  pub found_first : (n : ℕ) (found : Option ℕ)
+      → MatchOption found ((k : ℕ) → 0 ≤ k → k < n → says k ≡ false)
+      (λ i. (0 ≤ i) × (i < n) × (says i ≡ true) × ((k : ℕ) → 0 ≤ k → k < i → says k ≡ false))
+      → found ≡ pick (ltb (first_from n 0 says) n) (Some (first_from n 0 says)) None
+  found_first n None none =
+      let m = first_from n 0 says in
+      let behind : m < n → ⊥ = λ l. false≢true (sym (none m (omega arith) l) ∙ first_says n 0 (omega (arith, l))) in
+      rw (le-ltb m n (omega (arith, behind)))
+  found_first n (Some i) (from, within, hit, none) =
+      let m = first_from n 0 says in
+      let before : m < i → ⊥ = λ l. false≢true (sym (none m (omega arith) l) ∙ first_says n 0 (omega (arith, l))) in
+      let behind : i < m → ⊥ = λ l. false≢true (sym (none_before n 0 i (omega arith) l) ∙ hit) in
+      let same : m ≡ i = omega (arith, before, behind) in
+      rw (same, lt-ltb i n within)
 
 -- ---- a filter matches exactly if it has no such place
 
@@ -95,6 +103,16 @@ module _ (frame filter mask : ℕ → ℕ) where
   pub agree_first : (n : ℕ) → agree n frame filter mask ≡ eqb (first_from n 0 says) n
   agree_first n = by_agreement n (agree n frame filter mask) refl
 
-pub matches_first : (vector filter mask : List ℕ) → matches vector filter mask ≡ eqb (first_difference vector filter mask) 48
+-- what `is_none` says of a place below n, and of n itself
+none_at : (k n : ℕ) → k ≤ n → eqb k n ≡ is_none (pick (ltb k n) (Some k) None)
+none_at k n l = go (ltb k n) refl
+  where
+    go : (below : Bool) → ltb k n ≡ below → eqb k n ≡ is_none (pick below (Some k) None)
+    go true e = ne_eqb k n (λ same. omega (arith, ltb-true k n e, same))
+    go false e = eq-eqb k n (omega (arith, ltb-false k n e))
+
+pub matches_first : (vector filter mask : List ℕ) → matches vector filter mask ≡ is_none (first_difference vector filter mask)
 unfolding matches first_difference
-matches_first vector filter mask = agree_first (bit_at_place vector) (bit_at_place filter) (counted_of mask) 48
+matches_first vector filter mask =
+    agree_first (bit_at_place vector) (bit_at_place filter) (counted_of mask) 48
+    ∙ none_at _ 48 (first_within (says (bit_at_place vector) (bit_at_place filter) (counted_of mask)) 48 0)

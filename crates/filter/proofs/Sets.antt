@@ -4,31 +4,23 @@ use mathlib.Core.Path.{◌≡◌, refl, sym, ap, ◌∙◌}
 use mathlib.Core.Bool.{Bool, true, false}
 use mathlib.Core.List.{List}
 use mathlib.Core.Logic.{⊎_elim}
-use Prim.Native.Nat.{ℕ, zero, suc, ◌+◌, ◌*◌, ◌-◌, ◌/◌, ◌%◌, ◌^◌, ◌<◌}
-use native.Mathlib.Nat.{zero-mul, add_comm, lt_of_lt_of_le, add-suc, suc-add, mul_comm, pow-suc, mod-lt, mod-one, mod-eq_of_lt, eq-or-lt_of_le, le_of_suc-le-suc}
+use Prim.Native.Nat.{ℕ, zero, suc, ◌+◌, ◌*◌, ◌/◌, ◌%◌, ◌^◌, ◌<◌}
+use native.Mathlib.Nat.{zero-mul, add-suc, suc-add, mul_comm, pow-suc, mod-lt, mod-one, mod-eq_of_lt, eq-or-lt_of_le, le_of_suc-le-suc}
 use native.Mathlib.Numerals.{add-one, one-add}
 use native.Mathlib.Omega.{arith}
 use borrow.Author.Tests.{eq-eqb, ne_eqb, eqb-true, eqb-false}
 use lib.Arith.{lt-one, digits_lt}
+use lib.Bits.{bit_or, or_shifted_r}
 use lib.Count.{ones, count_trailing_zeros, under, ones_cat}
 use lib.Dec.{eqb}
-use lib.Pow.{shl_exact, pow_mono, high, low, field, mod-mod-pow, mod-pow-add, pow_pos, shr_lt, shr-shr}
+use lib.Pow.{shl_exact, high, mod-pow-add, pow_pos, shr_lt, shr-shr}
+use Rattle.std.proofs.lemmas.Nat.Bits.{bit_at_cat_low}
 use Rattle.base.specs.Bit.{bit, is_set}
 use Rattle.base.specs.Pick.{pick, flag}
 use Rattle.base.proofs.Booleans.{pick_keeps, flag_le, flag_back}
 use Rattle.filter.specs.Hits.{set_of, matches_at, hits, lowest_from, filhit, count_in}
 
 -- ---- the bit of each
-
--- a bit is one of the digits below any higher place
-bit_under : (k n x : ℕ) → k < n → bit k x ≡ bit k (x % 2 ^ n)
-bit_under k n x l = sym (field x 1 k) ∙ ap (λ (y : ℕ). y / 2 ^ k) cut ∙ field (x % 2 ^ n) 1 k
-  where
-    whole : n - (1 + k) + (1 + k) ≡ n
-    whole = omega arith
-
-    cut : x % 2 ^ (1 + k) ≡ x % 2 ^ n % 2 ^ (1 + k)
-    cut = sym (mod-mod-pow x (n - (1 + k)) (1 + k)) ∙ ap (λ (m : ℕ). x % 2 ^ m % 2 ^ (1 + k)) whole
 
 flag_lt : (b : Bool) → flag b < 2
 flag_lt b = omega (arith, flag_le b)
@@ -44,7 +36,7 @@ module _ (says : ℕ → Bool) where
       (ap (λ (y : ℕ). y % 2) (high (flag (says n)) n (set_below n)) ∙ mod-eq_of_lt (flag_lt (says n)))
 
   set_under : (n k : ℕ) → k < n → is_set k (set_of (suc n) says) ≡ is_set k (set_of n says)
-  set_under n k l = ap (λ (b : ℕ). eqb b 1) (bit_under k n (set_of (suc n) says) l ∙ ap (bit k) (low (flag (says n)) n (set_below n)))
+  set_under n k l = ap (λ (b : ℕ). eqb b 1) (bit_at_cat_low (flag (says n)) n (set_of n says) k l)
 
   pub set_bit : (n k : ℕ) → k < n → is_set k (set_of n says) ≡ says k
   set_bit zero k l = absurd (omega arith)
@@ -57,14 +49,11 @@ module _ (says : ℕ → Bool) where
   -- ---- of eight, a turn of the loop
 
   -- number k joins those before it
-  pub set_more : (k set f : ℕ) → k < 8 → set ≡ set_of k says → f ≡ flag (says k) → set + f * 2 ^ k % 256 ≡ set_of (k + 1) says
+  pub set_more : (k set f : ℕ) → k < 8 → set ≡ set_of k says → f ≡ flag (says k) → bit_or set (f * 2 ^ k % 256) ≡ set_of (k + 1) says
   set_more k set f l before joins =
       rw (add-one k, before, joins)
-      (ap (λ (x : ℕ). set_of k says + x) (shl_exact 1 k 8 (flag_lt (says k)) (omega arith))
-      ∙ add_comm (set_of k says) (flag (says k) * 2 ^ k))
-
-  pub set_fits : (k : ℕ) → k < 8 → set_of (k + 1) says < 256
-  set_fits k l = lt_of_lt_of_le (set_below (k + 1)) (pow_mono {i = k + 1} {j = 8} (omega arith))
+      (ap (bit_or (set_of k says)) (shl_exact 1 k 8 (flag_lt (says k)) (omega arith))
+      ∙ or_shifted_r (flag (says k)) k (set_of k says) (set_below k))
 
   -- ---- the empty set
 

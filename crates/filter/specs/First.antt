@@ -1,5 +1,5 @@
 -- Where a filter and a frame first differ (02, b)): the first place that counts and at which they are not alike.
-use Rattle.std.specs.Prelude.{Bool, not, ◌&&◌, List, ℕ, zero, suc, eqb}
+use Rattle.std.specs.Prelude.{Bool, not, ◌&&◌, Option, Some, None, List, ℕ, zero, suc, eqb, ltb}
 use Rattle.base.specs.Pick.{pick}
 use Rattle.filter.specs.Match.{bit_at_place, counted_of}
 
@@ -13,6 +13,7 @@ first_from zero k says = k
 first_from (suc n) k says = pick (says k) k (first_from n (suc k) says)
 
 -- "the first counted bit that differs, bytes from the first, bits from 7 down"
-unfoldable pub first_difference : List ℕ → List ℕ → List ℕ → ℕ
+unfoldable pub first_difference : List ℕ → List ℕ → List ℕ → Option ℕ
 first_difference vector filter mask =
-    first_from 48 0 (differs_at (bit_at_place vector) (bit_at_place filter) (counted_of mask))
+    let k = first_from 48 0 (differs_at (bit_at_place vector) (bit_at_place filter) (counted_of mask)) in
+    pick (ltb k 48) (Some k) None

@@ -1,7 +1,7 @@
 -- When a filter matches, bit by bit (01, Modes and filters; 000, Tables 4a and 4b). A filter, its mask and what a
 -- frame is compared by are six bytes each; their 48 places are numbered from 0 in the tables' order, from bit 7 of
 -- byte 1 to bit 0 of byte 6.
-use Rattle.std.specs.Prelude.{Bool, true, ◌&&◌, ◌||◌, List, ℕ, zero, suc, ◌-◌, ◌*◌, ◌/◌, ◌%◌, eqb, get_or}
+use Rattle.std.specs.Prelude.{Bool, true, ◌&&◌, ◌||◌, List, ℕ, zero, suc, ◌-◌, ◌*◌, ◌/◌, ◌%◌, eqb, get_or, set}
 use Rattle.base.specs.Bit.{bit}
 use Rattle.base.specs.Pick.{pick}
 
@@ -32,7 +32,6 @@ matches vector filter mask = agree 48 (bit_at_place vector) (bit_at_place filter
 
 -- ---- for the code's own step
 
--- byte j of a mask, from 0, without the bit that doesn't count; `counted_place` (proofs/Bytes) holds it against the
--- rule
-abbrev pub counted_byte : ℕ → ℕ → ℕ
-counted_byte j x = pick (eqb j 3) (x / 2 * 2) x
+-- a mask without the bit that doesn't count; `counted_place` (proofs/Bytes) holds it against the rule
+abbrev pub counted : List ℕ → List ℕ
+counted mask = set mask 3 (get_or mask 3 0 / 2 * 2)

@@ -3,15 +3,12 @@
 #![tactic(auto)]
 
 ghost use Rattle.std.specs.Prelude.{◌≡◌};
-ghost use Rattle.filter.specs.Match.{agree, bit_from_top, bit_at_place, counted_of, counted_byte, matches};
+ghost use Rattle.filter.specs.Match.{agree, bit_from_top, bit_at_place, counted_of, counted, matches};
 ghost use Rattle.filter.specs.Hits.{hits, filhit, how_many};
 ghost use Rattle.filter.specs.First.{differs_at, first_difference};
 
 // The bits of six bytes, numbered from bit 7 of the first to bit 0 of the sixth.
-pub const PLACES: usize = 48;
-
-// Bit 0 of byte 4, which Table 4b doesn't name.
-const UNCOUNTED: usize = 31;
+const PLACES: usize = 48;
 
 // No bit differs that the mask has.
 fn byte_agrees(frame: u8, filter: u8, mask: u8) -> bool
@@ -20,37 +17,35 @@ fn byte_agrees(frame: u8, filter: u8, mask: u8) -> bool
     (frame ^ filter) & mask == 0
 }
 
-// Byte k of a mask, from 0, without the bit that doesn't count: the lowest of the fourth.
-#[tactic(auto, using(base::specs::Pick::picks))]
-fn counted(k: usize, mask: u8) -> u8
-    ensures { result ≡ counted_byte k mask }
+// A mask without bit 0 of byte 4, which Table 4b doesn't name.
+fn counted(mut mask: [u8; 6]) -> [u8; 6]
+    ensures { result ≡ counted mask }
 {
-    if k == 3 { mask / 2 * 2 } else { mask }
+    mask[3] &= !1;
+    mask
 }
 
 #[tactic(auto, unfolding(crate::specs::Match::matches))]
 pub fn matches(vector: [u8; 6], filter: [u8; 6], mask: [u8; 6]) -> bool
     ensures { result ≡ matches vector filter mask }
 {
-    let mut all = true;
-    let mut k: usize = 0;
-    while k < 6 {
-        all = all & byte_agrees(vector[k], filter[k], counted(k, mask[k]));
-        k += 1;
-    }
-    all
+    let counted = counted(mask);
+    vector
+        .iter()
+        .zip(&filter)
+        .zip(&counted)
+        .all(|((v, f), m)| byte_agrees(*v, *f, *m))
 }
 
-// Which filters match, as one byte: bit k is set exactly if filter k does.
+// Which filters match, as one byte: bit k is set exactly if filter k does. 01 names the banks' form: by value, eight
+// arrays of six bytes.
 #[tactic(auto, unfolding(crate::specs::Hits::hits))]
 pub fn hits(bank: [[u8; 6]; 8], masks: [[u8; 6]; 8], vector: [u8; 6]) -> u8
     ensures { result ≡ hits bank masks vector }
 {
-    let mut set: u8 = 0;
-    let mut k: usize = 0;
-    while k < 8 {
-        set += base::flag(matches(vector, bank[k], masks[k])) << k;
-        k += 1;
+    let mut set = 0;
+    for k in 0..8 {
+        set |= base::flag(matches(vector, bank[k], masks[k])) << k;
     }
     set
 }
@@ -63,7 +58,7 @@ pub fn filhit(hits: u8) -> u8
     if hits == 0 {
         0
     } else {
-        8 + u8::trailing_zeros(hits) as u8
+        8 + hits.trailing_zeros() as u8
     }
 }
 
@@ -72,7 +67,7 @@ pub fn filhit(hits: u8) -> u8
 pub fn how_many(hits: u8) -> u8
     ensures { result ≡ how_many hits }
 {
-    u8::count_ones(hits) as u8
+    hits.count_ones() as u8
 }
 
 // The bit at a place.
@@ -83,15 +78,11 @@ pub fn bit_at(bytes: [u8; 6], place: usize) -> u8
 }
 
 // A mask's bit at a place, without the bit that doesn't count.
-#[tactic(auto, using(base::specs::Pick::picks))]
+#[tactic(auto, using(crate::proofs::Bytes::counted_place))]
 fn counted_at(mask: [u8; 6], place: usize) -> u8
     ensures { result ≡ counted_of mask place }
 {
-    if place == UNCOUNTED {
-        0
-    } else {
-        bit_at(mask, place)
-    }
+    bit_at(counted(mask), place)
 }
 
 fn differs_at(vector: [u8; 6], filter: [u8; 6], mask: [u8; 6], place: usize) -> bool
@@ -100,17 +91,10 @@ fn differs_at(vector: [u8; 6], filter: [u8; 6], mask: [u8; 6], place: usize) -> 
     (counted_at(mask, place) != 0) & (bit_at(vector, place) != bit_at(filter, place))
 }
 
-// The first place that counts and differs; in a filter that matches there is none, and it is PLACES.
+// The first place that counts and differs. In a filter that matches there is none.
 #[tactic(auto, unfolding(crate::specs::First::first_difference))]
-pub fn first_difference(vector: [u8; 6], filter: [u8; 6], mask: [u8; 6]) -> usize
+pub fn first_difference(vector: [u8; 6], filter: [u8; 6], mask: [u8; 6]) -> Option<usize>
     ensures { result ≡ first_difference vector filter mask }
 {
-    let mut place: usize = 0;
-    while place < PLACES {
-        if differs_at(vector, filter, mask, place) {
-            return place;
-        }
-        place += 1;
-    }
-    place
+    (0..PLACES).find(|&place| differs_at(vector, filter, mask, place))
 }

@@ -5,7 +5,7 @@ ghost use Rattle.std.specs.Prelude.{◌≡◌};
 ghost use Rattle.flags.specs.Flags.{raised, bus_error};
 ghost use Rattle.flags.specs.Reset.{reset};
 
-use chip::Device;
+use chip::{Device, Registers, Serials};
 
 // The interrupt flags that a step raises.
 pub const RXTMP: u8 = 128;
@@ -29,9 +29,8 @@ pub const F0MESS: u8 = 1;
 pub fn raised(d: Device, flags: u8) -> Device
     ensures { result ≡ raised d flags }
 {
-    let intf = d.regs.intf | flags;
     let mut e = d;
-    e.regs.intf = intf;
+    e.regs.intf |= flags;
     e
 }
 
@@ -40,9 +39,8 @@ pub fn raised(d: Device, flags: u8) -> Device
 pub fn bus_error(d: Device, bit: u8) -> Device
     ensures { result ≡ bus_error d bit }
 {
-    let errs = d.regs.errs | bit;
     let mut e = d;
-    e.regs.errs = errs;
+    e.regs.errs |= bit;
     raised(e, BUSERR)
 }
 
@@ -51,18 +49,22 @@ pub fn bus_error(d: Device, bit: u8) -> Device
 pub fn reset(d: Device) -> Device
     ensures { result ≡ reset d }
 {
-    let errs = d.regs.errs;
-    let mut e = chip::fresh();
-    e.regs.errs = errs;
-    let c = d.counters;
-    e.counters = c;
+    let fresh = chip::fresh();
     let filters = d.filters;
-    e.filters = filters;
     let masks = d.masks;
-    e.masks = masks;
-    let pin = d.txenpin;
-    e.txenpin = pin;
-    let last = d.serials.last;
-    e.serials.last = last;
-    e
+    Device {
+        regs: Registers {
+            errs: d.regs.errs,
+            ..fresh.regs
+        },
+        counters: d.counters,
+        serials: Serials {
+            last: d.serials.last,
+            ..fresh.serials
+        },
+        filters,
+        masks,
+        txenpin: d.txenpin,
+        ..fresh
+    }
 }

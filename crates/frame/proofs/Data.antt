@@ -11,7 +11,7 @@ use lib.Seq.{length-take-le, get_or-take}
 use Rattle.base.specs.Pick.{pick}
 use Rattle.base.specs.Put.{put_of}
 use Rattle.base.proofs.Booleans.{pick_keeps, pick_under}
-use Rattle.base.proofs.Lists.{drop_replicate}
+use Rattle.std.proofs.lemmas.List.{drop-replicate}
 use Rattle.frame.specs.declared.Header.{Header}
 use Rattle.frame.specs.Length.{data_length, data_bytes, data_of}
 
@@ -26,7 +26,7 @@ data_bytes_le h = pick_keeps (λ (n : ℕ). n ≤ 8) h.remote 0 _ (omega arith) 
 module _ (h : Header) (bytes : List ℕ) (enough : data_bytes h ≤ length bytes) where
   pub data_put : put_of (take (data_bytes h) bytes) (replicate 8 0) ≡ data_of h bytes
   unfolding data_of
-  data_put = rw (length-take-le (data_bytes h) bytes enough, le-leb (data_bytes h) 8 (data_bytes_le h), drop_replicate {A = ℕ} (data_bytes h) 8 0)
+  data_put = rw (length-take-le (data_bytes h) bytes enough, le-leb (data_bytes h) 8 (data_bytes_le h), drop-replicate {X = ℕ} (data_bytes h) 8 0)
 
 -- ---- byte by byte
 
@@ -53,3 +53,6 @@ pub data_has : (h : Header) (bytes : List ℕ) (i : ℕ) → get_or (data_of h b
 unfolding data_of
 data_has h bytes i =
     zeros_behind (take (data_bytes h) bytes) (8 - data_bytes h) i ∙ first_of (ltb i (data_bytes h)) (data_bytes h) i bytes refl
+
+-- what the code that copies a frame's data cites
+pub ruleset copies = (data_bytes_le, data_put, length-take-le)

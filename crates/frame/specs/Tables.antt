@@ -1,5 +1,5 @@
 -- The identifier's bytes, as 000's tables lay them out: 2 to send, 5 as read, 4 as compared.
-use Rattle.std.specs.Prelude.{List, [], ◌∷◌, ◌++◌, ℕ, ◌+◌, ◌*◌, ◌%◌, ◌^◌}
+use Rattle.std.specs.Prelude.{Bool, List, [], ◌∷◌, ◌++◌, ℕ, ◌+◌, ◌*◌, ◌%◌, ◌^◌}
 use Rattle.base.specs.Bit.{bits, byte}
 use Rattle.base.specs.Pick.{pick, flag}
 use Rattle.frame.specs.declared.Header.{Header}
@@ -9,6 +9,15 @@ use Rattle.frame.specs.Length.{data_of}
 -- The tables number an identifier's bits ID28 to ID0 for both kinds; a standard one has ID28 to ID18, and zeros below.
 unfoldable pub id_bits : Header → ℕ
 id_bits h = pick h.extended (h.id % 2 ^ 29) (h.id % 2 ^ 11 * 2 ^ 18)
+
+-- for the code's own step: the four bytes, with two bits between ID18 and ID17 and one below ID0
+abbrev pub laid_out : Header → Bool → Bool → Bool → List ℕ
+laid_out h upper lower last =
+    bits 28 21 (id_bits h) ∷
+    (bits 20 18 (id_bits h) * 32 + flag upper * 16 + flag lower * 8 + bits 17 15 (id_bits h)) ∷
+    bits 14 7 (id_bits h) ∷
+    (bits 6 0 (id_bits h) * 2 + flag last) ∷
+    []
 
 -- Table 2a: ID28..21; ID20..18, RTR, IDE (0), "The bits below are zero."
 abbrev pub standard_to_send : Header → List ℕ

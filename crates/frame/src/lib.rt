@@ -4,15 +4,15 @@
 
 mod identifier;
 
-ghost use Rattle.std.specs.Prelude.{◌≡◌, get_or};
+ghost use Rattle.std.specs.Prelude.{◌≡◌};
 ghost use Rattle.frame.specs.Length.{data_length, data_bytes, possible, data_fits, data_of};
 ghost use Rattle.frame.specs.Tables.{id_to_send, id_as_read, compared, id_from};
 ghost use Rattle.frame.specs.Received.{received, header_in, data_in};
 
-use identifier::id_parts;
+use identifier::laid_out;
 
 // What a frame says before its data.
-#[derive(Clone, Copy)]
+#[derive(Clone, Copy, Debug, Default, PartialEq, Eq)]
 pub struct Header {
     pub id: u32,
     pub extended: bool,
@@ -21,33 +21,35 @@ pub struct Header {
     pub code: u8,
 }
 
-// An identifier's bytes in 0x12: the first two, or all four.
-#[derive(Clone, Copy)]
+// An identifier's bytes in 0x12: the first two, or all four. An array and its count, since that is what the rule of
+// `id_to_send` gives, from which 01's worked numbers are computed: zeros behind the count.
+#[derive(Clone, Copy, Debug, PartialEq, Eq)]
 pub struct IdBytes {
     pub bytes: [u8; 4],
     pub count: usize,
 }
 
 // How many identifiers there are of each kind.
-const STANDARD: u32 = 2048;
+const STANDARD: u32 = 1 << 11;
 
-const EXTENDED: u32 = 536870912;
+const EXTENDED: u32 = 1 << 29;
 
 // What the lowest bit of each part of an identifier weighs.
-const ID21: u32 = 2097152;
+const ID21: u32 = 1 << 21;
 
-const ID18: u32 = 262144;
+const ID18: u32 = 1 << 18;
 
-const ID15: u32 = 32768;
+const ID15: u32 = 1 << 15;
 
-const ID7: u32 = 128;
+const ID7: u32 = 1 << 7;
 
-// How many data bytes a length code means. No frame has a code above 15; the rule's eight is said of those too.
+// How many data bytes a length code means. No frame has a code above 15; the rule's eight is said of those too. 02, i)
+// asks for the comparison as it is, and so it is no `min`.
 #[tactic(auto, unfolding(crate::specs::Length::data_length))]
 pub fn data_length(code: u8) -> usize
     ensures { result ≡ data_length code }
 {
-    if code <= 8 { code as usize } else { 8 }
+    if code <= 8 { usize::from(code) } else { 8 }
 }
 
 // How many data bytes a frame with this header has.
@@ -55,8 +57,7 @@ pub fn data_length(code: u8) -> usize
 pub fn data_bytes(h: Header) -> usize
     ensures { result ≡ data_bytes h }
 {
-    let remote = h.remote;
-    if remote { 0 } else { data_length(h.code) }
+    if h.remote { 0 } else { data_length(h.code) }
 }
 
 // Whether a frame can have this header at all.
@@ -64,8 +65,7 @@ pub fn data_bytes(h: Header) -> usize
 pub fn possible(h: Header) -> bool
     ensures { result ≡ possible h }
 {
-    let extended = h.extended;
-    let ids = if extended { EXTENDED } else { STANDARD };
+    let ids = if h.extended { EXTENDED } else { STANDARD };
     (h.id < ids) & (h.code <= 15)
 }
 
@@ -77,11 +77,14 @@ pub fn data_fits(h: Header, given: usize) -> bool
     given == data_bytes(h)
 }
 
-// Byte k of a frame's data, from 0.
-fn data_byte(h: Header, payload: [u8; 8], k: usize) -> u8
-    ensures { result ≡ get_or (data_of h payload) k 0 }
+// A frame's data in eight bytes; those that it lacks are zero.
+#[tactic(auto, using(crate::proofs::Data::copies))]
+fn data_of(h: Header, payload: [u8; 8]) -> [u8; 8]
+    ensures { result ≡ data_of h payload }
 {
-    if k < data_bytes(h) { payload[k] } else { 0 }
+    let mut data = [0; 8];
+    base::put(&payload[..data_bytes(h)], &mut data);
+    data
 }
 
 // The identifier in 0x12: Table 2. For whoever writes a message, a driver or another caller: no crate here calls it,
@@ -90,22 +93,14 @@ fn data_byte(h: Header, payload: [u8; 8], k: usize) -> u8
 pub fn id_to_send(h: Header) -> IdBytes
     ensures { result ≡ id_to_send h }
 {
-    let extended = h.extended;
-    let p = id_parts(h);
-    let rtr = base::flag(h.remote);
-    if extended {
+    if h.extended {
         IdBytes {
-            bytes: [
-                p.id28,
-                p.id20 * 32 + 16 + 8 + p.id17,
-                p.id14,
-                p.id6 * 2 + rtr,
-            ],
+            bytes: laid_out(h, true, true, h.remote),
             count: 4,
         }
     } else {
         IdBytes {
-            bytes: [p.id28, p.id20 * 32 + rtr * 16, 0, 0],
+            bytes: laid_out(h, h.remote, false, false),
             count: 2,
         }
     }
@@ -116,15 +111,7 @@ pub fn id_to_send(h: Header) -> IdBytes
 pub fn id_as_read(h: Header) -> [u8; 4]
     ensures { result ≡ id_as_read h }
 {
-    let p = id_parts(h);
-    let ide = base::flag(h.extended);
-    let rtr = base::flag(h.remote);
-    [
-        p.id28,
-        p.id20 * 32 + ide * 16 + ide * 8 + p.id17,
-        p.id14,
-        p.id6 * 2 + rtr,
-    ]
+    laid_out(h, h.extended, h.extended, h.remote)
 }
 
 // What the filters are held against: Table 4a.
@@ -132,45 +119,21 @@ pub fn id_as_read(h: Header) -> [u8; 4]
 pub fn compared(h: Header, payload: [u8; 8]) -> [u8; 6]
     ensures { result ≡ compared h payload }
 {
-    let p = id_parts(h);
-    let ide = base::flag(h.extended);
-    let rtr = base::flag(h.remote);
-    [
-        p.id28,
-        p.id20 * 32 + rtr * 16 + ide * 8 + p.id17,
-        p.id14,
-        p.id6 * 2,
-        data_byte(h, payload, 0),
-        data_byte(h, payload, 1),
-    ]
+    let [a, b, c, d] = laid_out(h, h.remote, h.extended, false);
+    let [first, second, ..] = data_of(h, payload);
+    [a, b, c, d, first, second]
 }
 
 // A received message: Table 5, all sixteen bytes.
 pub fn received(h: Header, payload: [u8; 8], time: u16, filhit: u8) -> [u8; 16]
     ensures { result ≡ received h payload time filhit }
 {
-    let id = id_as_read(h);
-    let n = data_bytes(h);
-    let ide = base::flag(h.extended);
-    let mut m = [
-        ide * 128 + filhit % 8,
-        (time / 256) as u8,
-        (time % 256) as u8,
-        id[0],
-        id[1],
-        id[2],
-        id[3],
-        h.code % 16,
-        0,
-        0,
-        0,
-        0,
-        0,
-        0,
-        0,
-        0,
-    ];
-    base::put(&payload[..n], &mut m[8..]);
+    let mut m = [0; 16];
+    m[0] = base::flag(h.extended) * 128 + filhit % 8;
+    m[1..3].copy_from_slice(&time.to_be_bytes());
+    m[3..7].copy_from_slice(&id_as_read(h));
+    m[7] = h.code % 16;
+    m[8..].copy_from_slice(&data_of(h, payload));
     m
 }
 
@@ -178,11 +141,11 @@ pub fn received(h: Header, payload: [u8; 8], time: u16, filhit: u8) -> [u8; 16]
 pub fn id_from(a: u8, b: u8, c: u8, d: u8) -> u32
     ensures { result ≡ id_from a b c d }
 {
-    (a as u32) * ID21
-        + ((b >> 5) % 8) as u32 * ID18
-        + (b % 8) as u32 * ID15
-        + (c as u32) * ID7
-        + ((d >> 1) % 128) as u32
+    u32::from(a) * ID21
+        + u32::from(b >> 5) * ID18
+        + u32::from(b % 8) * ID15
+        + u32::from(c) * ID7
+        + u32::from(d >> 1)
 }
 
 // The header read back from a message's bytes.
@@ -191,23 +154,12 @@ pub fn header_in(m: [u8; 16]) -> Header
     ensures { result ≡ header_in m }
 {
     let id = id_from(m[3], m[4], m[5], m[6]);
-    let extended = (m[4] >> 3) % 2 == 1;
-    let remote = m[6] % 2 == 1;
-    let code = m[7];
-    if extended {
-        Header {
-            id,
-            extended: true,
-            remote,
-            code,
-        }
-    } else {
-        Header {
-            id: id / ID18,
-            extended: false,
-            remote,
-            code,
-        }
+    let extended = base::is_set(3, m[4]);
+    Header {
+        id: if extended { id } else { id / ID18 },
+        extended,
+        remote: base::is_set(0, m[6]),
+        code: m[7],
     }
 }
 
@@ -215,5 +167,7 @@ pub fn header_in(m: [u8; 16]) -> Header
 pub fn data_in(m: [u8; 16]) -> [u8; 8]
     ensures { result ≡ data_in m }
 {
-    [m[8], m[9], m[10], m[11], m[12], m[13], m[14], m[15]]
+    let mut eight = [0; 8];
+    eight.copy_from_slice(&m[8..]);
+    eight
 }

@@ -1,5 +1,5 @@
 -- Which events are answered 8 or 12, and what the others say (01, Bus events, and Numbers given back; 02, g)).
-use Rattle.std.specs.Prelude.{Bool, true, false, not, ◌&&◌, ◌||◌, List, ℕ, eqb, replicate}
+use Rattle.std.specs.Prelude.{Bool, true, false, not, ◌&&◌, ◌||◌, List, ℕ, eqb, Option, Some, None}
 use Rattle.base.specs.Pick.{pick}
 use Rattle.frame.specs.declared.Header.{Header}
 use Rattle.frame.specs.Length.{possible, data_fits}
@@ -10,8 +10,6 @@ use Rattle.receive.specs.declared.Brought.{Brought}
 use Rattle.receive.specs.declared.Arrival.TheVariants.{A1, A2, A3}
 use Rattle.receive.specs.Receive.{filters_and_room, reaches_temporary, own_frame}
 use Rattle.transmit.specs.Transmit.{can_begin}
-use Rattle.judged.specs.declared.Answer.{Answer}
-use Rattle.judged.specs.declared.Answer.TheVariants.{Refused, Done, Arrived}
 use Rattle.events.specs.declared.Event.{Event}
 use Rattle.events.specs.declared.Event.TheVariants.{GoodFrame, ReceiveError, DominantBit, TransmitError, Begun, Completed}
 use Rattle.events.specs.declared.Event.TheVariants.{ArbitrationLost, ElevenRecessive, BusQuiet, BusActivity, Ticks, TxenPin}
@@ -69,53 +67,43 @@ reason d b set =
     (pick (unacknowledged d.acting b.acknowledged) A3
     (filters_and_room d set))))
 
--- what an event says that isn't refused, by the filters that its frame hits
-unfoldable pub said : Device → Brought → ℕ → Answer
-said d b set = pick b.comes (Arrived (reason d b set)) Done
+-- what an event that isn't refused says of its frame, by the filters that this hits
+unfoldable pub said : Device → Option Brought → ℕ → Option Arrival
+said d None set = None
+said d (Some b) set = Some (reason d b set)
 
 -- 02, g): "Each good frame that is not answered A1 to A3 gets an arrival number", and so does a loopback completion
-unfoldable pub gives_number : Answer → Bool
-gives_number (Refused n) = false
-gives_number Done = false
-gives_number (Arrived what) = reaches_temporary what
+unfoldable pub gives_number : Option Arrival → Bool
+gives_number None = false
+gives_number (Some what) = reaches_temporary what
 
 -- 12: "a good frame (or loopback completion) to be numbered when the last number has been given"
-unfoldable pub no_number_left : Device → Answer → Bool
-no_number_left d a = gives_number a && spent d
+unfoldable pub no_number_left : Device → Option Arrival → Bool
+no_number_left d told = gives_number told && spent d
 
 -- "good frame (with acknowledged or not)"
 unfoldable pub bus_frame : Header → Bool → List ℕ → Brought
 bus_frame h acknowledged bytes = record {
-  comes = true;
   own = false;
   acknowledged = acknowledged;
   header = h;
   payload = bytes;
 }
 
-unfoldable pub nothing : Brought
-nothing = record {
-  comes = false;
-  own = false;
-  acknowledged = false;
-  header = record { id = 0; extended = false; remote = false; code = 0 };
-  payload = replicate 8 0;
-}
-
 -- What an event brings: a good frame; a completion the own message, which comes in loopback (`own_frame`). No other
 -- event brings one.
-unfoldable pub brings : Device → Event → List ℕ → Brought
-brings d (GoodFrame h acknowledged given) bytes = bus_frame h acknowledged bytes
+unfoldable pub brings : Device → Event → List ℕ → Option Brought
+brings d (GoodFrame h acknowledged given) bytes = Some (bus_frame h acknowledged bytes)
 brings d Completed bytes = own_frame d
-brings d (ReceiveError kind) bytes = nothing
-brings d DominantBit bytes = nothing
-brings d (TransmitError kind counted) bytes = nothing
-brings d Begun bytes = nothing
-brings d ArbitrationLost bytes = nothing
-brings d ElevenRecessive bytes = nothing
-brings d BusQuiet bytes = nothing
-brings d BusActivity bytes = nothing
-brings d (Ticks count) bytes = nothing
-brings d (TxenPin level) bytes = nothing
-brings d MrPin bytes = nothing
-brings d Unknown bytes = nothing
+brings d (ReceiveError kind) bytes = None
+brings d DominantBit bytes = None
+brings d (TransmitError kind counted) bytes = None
+brings d Begun bytes = None
+brings d ArbitrationLost bytes = None
+brings d ElevenRecessive bytes = None
+brings d BusQuiet bytes = None
+brings d BusActivity bytes = None
+brings d (Ticks count) bytes = None
+brings d (TxenPin level) bytes = None
+brings d MrPin bytes = None
+brings d Unknown bytes = None

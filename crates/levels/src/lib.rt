@@ -1,7 +1,7 @@
 // What the registers show of the error counters: the levels they have reached, and the counts in bus off.
 #![tactic(auto)]
 
-ghost use Rattle.std.specs.Prelude.{◌≡◌, min};
+ghost use Rattle.std.specs.Prelude.{◌≡◌};
 ghost use Rattle.levels.specs.Levels.{warns, rxerrp, txerrp, errw, errp, level_bits, tec_shown, groups_shown};
 
 use counters::Counters;
@@ -53,14 +53,7 @@ pub fn level_bits(c: Counters) -> u8
 pub fn tec_shown(c: Counters) -> u8
     ensures { result ≡ tec_shown c }
 {
-    let busoff = c.busoff;
-    if busoff { 255 } else { c.tec }
-}
-
-fn at_most_128(n: u8) -> u8
-    ensures { result ≡ min n 128 }
-{
-    if n <= 128 { n } else { 128 }
+    if c.busoff { 255 } else { c.tec }
 }
 
 // What 0xF8 reads.
@@ -68,6 +61,5 @@ fn at_most_128(n: u8) -> u8
 pub fn groups_shown(c: Counters) -> u8
     ensures { result ≡ groups_shown c }
 {
-    let busoff = c.busoff;
-    if busoff { at_most_128(c.groups) } else { 0 }
+    if c.busoff { c.groups.min(128) } else { 0 }
 }

@@ -8,8 +8,9 @@ use Rattle.events.specs.declared.Event.TheVariants.{GoodFrame, ReceiveError, Tra
 use Rattle.line.specs.declared.Asked.TheVariants.{Nothing, Transfer, Happens, Pins, Numbers, Hits, Unreadable}
 use Rattle.line.specs.declared.Expected.TheVariants.{Request, Byte, Lent, Identifier, StdOrExt, DataOrRemote, LengthCode}
 use Rattle.line.specs.declared.Expected.TheVariants.{AckOrNoack, CountedOrExempt, EndOfLine}
-use Rattle.line.specs.Numbers.{digit_of, is_number, value_of, is_byte}
+use Rattle.line.specs.Numbers.{digit_of, is_number, value_of, is_byte, byte_of}
 use Rattle.line.specs.Words.{choice_of}
+use Rattle.line.specs.Data.{data_of}
 use Rattle.line.specs.Text.{ascii}
 use Rattle.line.specs.Request.{
   plain,
@@ -17,18 +18,13 @@ use Rattle.line.specs.Request.{
   with_data,
   ending,
   transfer_of,
+  lent_of,
   sized_of,
-  frame_data,
-  frame_ack,
-  hits_data,
-  frame_rest,
-  frame_code,
-  frame_remote,
-  frame_kind,
+  header_of,
   frame_of,
+  hits_of,
   kind_of,
   rxerr_of,
-  txerr_counted,
   txerr_of,
   ticks_of,
   txen_of,
@@ -103,5 +99,5 @@ pub worked : map (λ (t : String). read_line (ascii t)) lines
     plain Numbers ∷
     unreadable EndOfLine (ascii "1") ∷
     []
-unfolding digit_of is_number value_of is_byte ending choice_of transfer_of sized_of frame_data frame_ack hits_data frame_rest frame_code frame_remote frame_kind frame_of kind_of rxerr_of txerr_counted txerr_of ticks_of txen_of alone_of lone_of named_of request_of read_line
+unfolding digit_of is_number value_of is_byte byte_of choice_of data_of ending transfer_of lent_of sized_of header_of frame_of hits_of kind_of rxerr_of txerr_of ticks_of txen_of alone_of lone_of named_of request_of read_line
 worked = refl

@@ -1,8 +1,10 @@
 -- The data of a request: `B B …`, any number of bytes, also none.
-use Rattle.std.specs.Prelude.{Bool, true, false, ◌&&◌, List, [], ◌∷◌, ◌++◌, map, ℕ, ◌+◌, ◌-◌, ltb, length, take, set, replicate}
+use Rattle.std.specs.Prelude.{Bool, true, ◌&&◌, List, [], ◌∷◌, ◌++◌, map, ℕ, ◌+◌, ◌-◌, Ok, Err, ltb, length, take, set, replicate}
 use Rattle.base.specs.Pick.{pick}
+use Rattle.line.specs.declared.Expected.TheVariants.{Byte}
 use Rattle.line.specs.declared.data.Data.{Data}
 use Rattle.line.specs.Numbers.{value_of, is_byte}
+use Rattle.line.specs.Steps.{Read}
 
 abbrev pub are_bytes : List (List ℕ) → Bool
 are_bytes [] = true
@@ -25,15 +27,14 @@ padded bytes = bytes ++ replicate (16 - length bytes) 0
 abbrev pub head : List ℕ → List ℕ
 head w = padded (take 16 w)
 
+abbrev pub held : List ℕ → Data
+held bytes = record { bytes = padded bytes; count = length bytes }
+
+unfoldable pub data_of : List (List ℕ) → Read Data
+data_of ws = pick (are_bytes ws) (Ok (held (kept ws))) (Err (Byte, first_other ws))
+
 -- ---- for the reader's own steps
-
--- in place of data, a word that is no byte
-abbrev pub no_data : List ℕ → Data
-no_data w = record { good = false; bytes = head w; count = length w }
-
-unfoldable pub gather_of : List (List ℕ) → Data
-gather_of ws = pick (are_bytes ws) (record { good = true; bytes = padded (kept ws); count = length (kept ws) }) (no_data (first_other ws))
 
 -- one byte more, as long as there are fewer than sixteen
 unfoldable pub keep_of : Data → ℕ → Data
-keep_of d b = pick (ltb d.count 16) (record { good = d.good; bytes = set d.bytes d.count b; count = d.count + 1 }) d
+keep_of d b = pick (ltb d.count 16) (record { bytes = set d.bytes d.count b; count = d.count + 1 }) d

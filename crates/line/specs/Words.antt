@@ -1,9 +1,8 @@
 -- A line's words. A line is a list of bytes, without the newline that ended it.
-use Rattle.std.specs.Prelude.{◌≡◌, Bool, true, false, not, ◌&&◌, ◌||◌, List, [], ◌∷◌, ℕ, suc, ◌-◌, ◌<◌, ◌≤◌, eqb, length, take, drop, get_or}
+use Rattle.std.specs.Prelude.{◌≡◌, Bool, true, false, not, ◌||◌, List, [], ◌∷◌, Option, Some, None, ℕ, ◌<◌, eqb, length, drop, get_or}
+use Rattle.std.specs.Cmp.Lexicographic.{pointwise}
+use Rattle.std.specs.List.{prefix_len}
 use Rattle.base.specs.Pick.{pick}
-use Rattle.line.specs.declared.words.Choice.{Choice}
-use Rattle.line.specs.declared.words.Choice.TheVariants.{Yes, No, Neither}
-use Rattle.line.specs.declared.words.Span.{Span}
 
 -- What follows `#` is passed over: the bytes before the first one.
 abbrev pub is_comment : ℕ → Bool
@@ -36,14 +35,11 @@ words_of (b ∷ s) = pick (is_blank b) (words_of s) (joined b s (words_of s))
 
 -- Words are exact.
 abbrev pub same : List ℕ → List ℕ → Bool
-same [] [] = true
-same [] (b ∷ t) = false
-same (a ∷ s) [] = false
-same (a ∷ s) (b ∷ t) = eqb a b && same s t
+same s t = pointwise eqb s t
 
--- one word of two
-unfoldable pub choice_of : List ℕ → List ℕ → List ℕ → Choice
-choice_of w one other = pick (same w one) Yes (pick (same w other) No Neither)
+-- one word of two: whether it is the first of them
+unfoldable pub choice_of : List ℕ → List ℕ → List ℕ → Option Bool
+choice_of w one other = pick (same w one) (Some true) (pick (same w other) (Some false) None)
 
 -- A table of words: what is said of the first that w is, or what holds otherwise.
 abbrev pub among_words : {A : Type 0} → List ℕ → List (List ℕ × A) → A → A
@@ -52,27 +48,21 @@ among_words w (c ∷ cases) other = pick (same w c.0) c.1 (among_words w cases o
 
 -- ---- for the reader's own steps
 
--- how many bytes of a kind a line begins with
-abbrev pub run : (ℕ → Bool) → List ℕ → ℕ
-run kind [] = 0
-run kind (b ∷ s) = pick (kind b) (suc (run kind s)) 0
+-- how many bytes stand before a comment
+abbrev pub before_comment : List ℕ → ℕ
+before_comment s = prefix_len (λ b. not (is_comment b)) s
 
+-- how many blanks a line begins with, and how many letters
 abbrev pub blanks : List ℕ → ℕ
-blanks s = run is_blank s
+blanks s = prefix_len is_blank s
 
 abbrev pub letters : List ℕ → ℕ
-letters s = run (λ b. not (is_blank b)) s
+letters s = prefix_len (λ b. not (is_blank b)) s
 
-abbrev pub before_comment : List ℕ → ℕ
-before_comment s = run (λ b. not (is_comment b)) s
-
--- The first word of what is left of s from `at` on stands between two places of s, and after it stand the others;
--- with no word left the two places are one.
-pub record Found (s : List ℕ) (at : ℕ) (r : Span) : Type 0 where
-  pub ahead : at ≤ r.from
-  pub order : r.from ≤ r.to
-  pub within : r.to ≤ length s
-  pub word : take (r.to - r.from) (drop r.from s) ≡ first (words_of (drop at s))
-  pub others : words_of (drop r.to s) ≡ rest (words_of (drop at s))
-  pub none : r.from ≡ r.to → words_of (drop at s) ≡ []
-  pub some : r.from < r.to → words_of (drop at s) ≡ take (r.to - r.from) (drop r.from s) ∷ words_of (drop r.to s)
+-- s as its first word w, empty where s has none, and what stands after it
+pub record Cut (s w after : List ℕ) : Type 0 where
+  pub none : length w ≡ 0 → words_of s ≡ []
+  pub some : 0 < length w → words_of s ≡ w ∷ words_of after
+  pub word : w ≡ first (words_of s)
+  pub others : words_of after ≡ rest (words_of s)
+  pub shorter : 0 < length w → length after < length s

@@ -1,10 +1,11 @@
 // What a line comes to: a request, or the word that stands where another was expected.
-ghost use Rattle.std.specs.Prelude.{◌≡◌, ◌≤◌, length, drop};
+ghost use Rattle.std.specs.Prelude.{◌≡◌};
 ghost use Rattle.line.specs.Words.{words_of};
-ghost use Rattle.line.specs.Request.{plain, unreadable, ending, carrying};
+ghost use Rattle.line.specs.Steps.{read};
+ghost use Rattle.line.specs.Request.{plain, carrying, unreadable, ending};
 
 use crate::data::{Data, head};
-use crate::words::word;
+use crate::words::{Misread, next_word};
 use crate::{Asked, Expected, Line};
 
 pub(crate) fn plain(asked: Asked) -> Line
@@ -12,17 +13,15 @@ pub(crate) fn plain(asked: Asked) -> Line
 {
     Line {
         asked,
-        bytes: [0u8; 16],
+        bytes: [0; 16],
         count: 0,
     }
 }
 
-pub(crate) fn unreadable(expected: Expected, word: &[u8]) -> Line
-    ensures { result ≡ unreadable expected word.now }
+pub(crate) fn carrying(asked: Asked, data: Data) -> Line
+    ensures { result ≡ carrying asked «data» }
 {
-    let asked = Asked::Unreadable(expected);
-    let bytes = head(word);
-    let count = word.len();
+    let Data { bytes, count } = data;
     Line {
         asked,
         bytes,
@@ -30,42 +29,30 @@ pub(crate) fn unreadable(expected: Expected, word: &[u8]) -> Line
     }
 }
 
-// A request with its data, if they are all bytes.
-#[tactic(auto, unfolding(crate::specs::Request::carrying))]
-pub(crate) fn carrying(asked: Asked, d: Data) -> Line
-    ensures { result ≡ carrying asked d }
+pub(crate) fn unreadable(misread: Misread<'_>) -> Line
+    ensures { result ≡ unreadable misread.entry.expected misread.entry.word.now }
 {
-    let good = d.good;
-    let bytes = d.bytes;
-    let count = d.count;
-    if good {
-        Line {
-            asked,
-            bytes,
-            count,
-        }
-    } else {
-        let asked = Asked::Unreadable(Expected::Byte);
-        Line {
-            asked,
-            bytes,
-            count,
-        }
+    let bytes = head(misread.word);
+    let count = misread.word.len();
+    Line {
+        asked: Asked::Unreadable(misread.expected),
+        bytes,
+        count,
     }
 }
 
 // A complete request, if the line ends with it.
 #[tactic(auto, unfolding(crate::specs::Request::ending))]
-pub(crate) fn ending(asked: Asked, s: &[u8], at: usize) -> Line
-    requires { at ≤ length s.now }
-    ensures { result ≡ ending asked (words_of (drop at s.now)) }
+pub(crate) fn ending(asked: Asked, s: &[u8]) -> Result<Line, Misread<'_>>
+    ensures { read result ≡ ending asked (words_of s.now) }
 {
-    let w = word(s, at);
-    let from = w.from;
-    let to = w.to;
-    if from == to {
-        plain(asked)
+    let (word, _) = next_word(s);
+    if word.is_empty() {
+        Ok(plain(asked))
     } else {
-        unreadable(Expected::EndOfLine, &s[from..to])
+        Err(Misread {
+            expected: Expected::EndOfLine,
+            word,
+        })
     }
 }

@@ -1,78 +1,53 @@
 // `rxerr` and `txerr`: an error that was met on the bus.
-ghost use Rattle.std.specs.Prelude.{◌≡◌, ◌≤◌, length, drop};
+ghost use Rattle.std.specs.Prelude.{◌≡◌};
+ghost use Rattle.line.specs.declared.Expected.TheVariants.{Error};
 ghost use Rattle.line.specs.Words.{words_of};
-ghost use Rattle.line.specs.Request.{kind_of, rxerr_of, txerr_counted, txerr_of};
+ghost use Rattle.line.specs.Steps.{read, read_on, word_as};
+ghost use Rattle.line.specs.Request.{kind_of, rxerr_of, txerr_of};
 
-use crate::answers::{ending, unreadable};
-use crate::words::{Choice, choose, is, word};
+use crate::answers::ending;
+use crate::words::{Misread, choice, next_word};
 use crate::{Asked, Expected, Line};
 use events::{ErrorKind, Event};
 
-// An error's kind, where a word names one.
-#[derive(Clone, Copy)]
-pub enum Kind {
-    Is(ErrorKind),
-    Other,
-}
-
 #[tactic(auto, unfolding(crate::specs::Request::kind_of))]
-fn kind_of(word: &[u8]) -> Kind
+fn kind_of(word: &[u8]) -> Option<ErrorKind>
     ensures { result ≡ kind_of word.now }
 {
-    if is(word, b"stuff") {
-        Kind::Is(ErrorKind::Stuff)
-    } else if is(word, b"ack") {
-        Kind::Is(ErrorKind::Ack)
-    } else if is(word, b"crc") {
-        Kind::Is(ErrorKind::Crc)
-    } else if is(word, b"form") {
-        Kind::Is(ErrorKind::Form)
-    } else if is(word, b"bit") {
-        Kind::Is(ErrorKind::Bit)
-    } else {
-        Kind::Other
+    match word {
+        b"stuff" => Some(ErrorKind::Stuff),
+        b"ack" => Some(ErrorKind::Ack),
+        b"crc" => Some(ErrorKind::Crc),
+        b"form" => Some(ErrorKind::Form),
+        b"bit" => Some(ErrorKind::Bit),
+        _ => None,
     }
+}
+
+fn kind(s: &[u8]) -> Result<(ErrorKind, &[u8]), Misread<'_>>
+    ensures { read_on result ≡ word_as kind_of Error (words_of s.now) }
+{
+    let (word, rest) = next_word(s);
+    let kind = kind_of(word).ok_or(Misread {
+        expected: Expected::Error,
+        word,
+    })?;
+    Ok((kind, rest))
 }
 
 #[tactic(auto, unfolding(crate::specs::Request::rxerr_of))]
-pub(crate) fn rxerr(s: &[u8], at: usize) -> Line
-    requires { at ≤ length s.now }
-    ensures { result ≡ rxerr_of (words_of (drop at s.now)) }
+pub(crate) fn rxerr(s: &[u8]) -> Result<Line, Misread<'_>>
+    ensures { read result ≡ rxerr_of (words_of s.now) }
 {
-    let w = word(s, at);
-    let from = w.from;
-    let to = w.to;
-    match kind_of(&s[from..to]) {
-        Kind::Is(kind) => ending(Asked::Happens(Event::ReceiveError(kind)), s, to),
-        Kind::Other => unreadable(Expected::Error, &s[from..to]),
-    }
-}
-
-#[tactic(auto, unfolding(crate::specs::Request::txerr_counted))]
-fn txerr_counted(kind: ErrorKind, s: &[u8], at: usize) -> Line
-    requires { at ≤ length s.now }
-    ensures { result ≡ txerr_counted kind (words_of (drop at s.now)) }
-{
-    let w = word(s, at);
-    let from = w.from;
-    let to = w.to;
-    match choose(&s[from..to], b"counted", b"exempt") {
-        Choice::Yes => ending(Asked::Happens(Event::TransmitError(kind, true)), s, to),
-        Choice::No => ending(Asked::Happens(Event::TransmitError(kind, false)), s, to),
-        Choice::Neither => unreadable(Expected::CountedOrExempt, &s[from..to]),
-    }
+    let (kind, rest) = kind(s)?;
+    ending(Asked::Happens(Event::ReceiveError(kind)), rest)
 }
 
 #[tactic(auto, unfolding(crate::specs::Request::txerr_of))]
-pub(crate) fn txerr(s: &[u8], at: usize) -> Line
-    requires { at ≤ length s.now }
-    ensures { result ≡ txerr_of (words_of (drop at s.now)) }
+pub(crate) fn txerr(s: &[u8]) -> Result<Line, Misread<'_>>
+    ensures { read result ≡ txerr_of (words_of s.now) }
 {
-    let w = word(s, at);
-    let from = w.from;
-    let to = w.to;
-    match kind_of(&s[from..to]) {
-        Kind::Is(kind) => txerr_counted(kind, s, to),
-        Kind::Other => unreadable(Expected::Error, &s[from..to]),
-    }
+    let (kind, rest) = kind(s)?;
+    let (counted, rest) = choice(rest, b"counted", b"exempt", Expected::CountedOrExempt)?;
+    ending(Asked::Happens(Event::TransmitError(kind, counted)), rest)
 }

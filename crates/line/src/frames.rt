@@ -1,147 +1,71 @@
-// `frame` and `hits`: a good frame, with a function for each word that is read, from the last to the first.
-ghost use Rattle.std.specs.Prelude.{◌≡◌, ◌≤◌, min, length, drop};
+// `frame` and `hits`: a good frame.
+ghost use Rattle.std.specs.Prelude.{◌≡◌};
 ghost use Rattle.line.specs.Words.{words_of};
-ghost use Rattle.line.specs.Numbers.{value_of, most};
-ghost use Rattle.line.specs.Request.{frame_data, frame_ack, hits_data, frame_rest};
-ghost use Rattle.line.specs.Request.{frame_code, frame_remote, frame_kind, frame_of};
+ghost use Rattle.line.specs.Steps.{read, read_on};
+ghost use Rattle.line.specs.Request.{code_of, header_of, frame_of, hits_of};
 
-use crate::answers::{carrying, unreadable};
+use crate::answers::carrying;
 use crate::data::gather;
-use crate::numbers::{capped, is_number};
-use crate::words::{Choice, choose, word};
+use crate::numbers::capped;
+use crate::words::{Misread, choice, next_word};
 use crate::{Asked, Expected, Line};
 use events::Event;
 use frame::Header;
 
-// What a frame's words are for.
-#[derive(Clone, Copy)]
-pub enum For {
-    // The frame arrives.
-    Arrival,
-    // Which filters it would hit.
-    Question,
+fn code_of(word: &[u8]) -> Option<u8>
+    ensures { result ≡ code_of word.now }
+{
+    let n = capped(word, 10)?;
+    Some(n.min(255) as u8)
 }
 
-fn frame_data(header: Header, acked: bool, s: &[u8], at: usize) -> Line
-    requires { at ≤ length s.now }
-    ensures { result ≡ frame_data header acked (words_of (drop at s.now)) }
+// The words up to the length code, and what follows them.
+#[tactic(auto, unfolding(crate::specs::Request::header_of))]
+fn header(s: &[u8]) -> Result<(Header, &[u8]), Misread<'_>>
+    ensures { read_on result ≡ header_of (words_of s.now) }
 {
-    let d = gather(s, at);
-    let count = d.count;
-    carrying(Asked::Happens(Event::GoodFrame(header, acked, count)), d)
-}
-
-#[tactic(auto, unfolding(crate::specs::Request::frame_ack))]
-fn frame_ack(header: Header, s: &[u8], at: usize) -> Line
-    requires { at ≤ length s.now }
-    ensures { result ≡ frame_ack header (words_of (drop at s.now)) }
-{
-    let w = word(s, at);
-    let from = w.from;
-    let to = w.to;
-    match choose(&s[from..to], b"ack", b"noack") {
-        Choice::Yes => frame_data(header, true, s, to),
-        Choice::No => frame_data(header, false, s, to),
-        Choice::Neither => unreadable(Expected::AckOrNoack, &s[from..to]),
-    }
-}
-
-fn hits_data(header: Header, s: &[u8], at: usize) -> Line
-    requires { at ≤ length s.now }
-    ensures { result ≡ hits_data header (words_of (drop at s.now)) }
-{
-    let d = gather(s, at);
-    let count = d.count;
-    carrying(Asked::Hits(header, count), d)
-}
-
-// What follows the length code: filters don't ask who acknowledged a frame.
-#[tactic(auto, unfolding(crate::specs::Request::frame_rest))]
-fn frame_rest(what: For, header: Header, s: &[u8], at: usize) -> Line
-    requires { at ≤ length s.now }
-    ensures { result ≡ frame_rest what header (words_of (drop at s.now)) }
-{
-    match what {
-        For::Arrival => frame_ack(header, s, at),
-        For::Question => hits_data(header, s, at),
-    }
-}
-
-fn code(word: &[u8]) -> u8
-    ensures { result ≡ min (value_of 10 word.now) 255 }
-{
-    let n = capped(word, 10);
-    if n < 255 { n as u8 } else { 255 }
-}
-
-#[tactic(auto, unfolding(crate::specs::Request::frame_code))]
-fn frame_code(what: For, id: u32, extended: bool, remote: bool, s: &[u8], at: usize) -> Line
-    requires { at ≤ length s.now }
-    ensures { result ≡ frame_code what id extended remote (words_of (drop at s.now)) }
-{
-    let w = word(s, at);
-    let from = w.from;
-    let to = w.to;
-    if is_number(&s[from..to], 10) {
-        let header = Header {
+    let (word, rest) = next_word(s);
+    let id = capped(word, 16).ok_or(Misread {
+        expected: Expected::Identifier,
+        word,
+    })?;
+    let (extended, rest) = choice(rest, b"ext", b"std", Expected::StdOrExt)?;
+    let (remote, rest) = choice(rest, b"remote", b"data", Expected::DataOrRemote)?;
+    let (word, rest) = next_word(rest);
+    let code = code_of(word).ok_or(Misread {
+        expected: Expected::LengthCode,
+        word,
+    })?;
+    Ok((
+        Header {
             id,
             extended,
             remote,
-            code: code(&s[from..to]),
-        };
-        frame_rest(what, header, s, to)
-    } else {
-        unreadable(Expected::LengthCode, &s[from..to])
-    }
-}
-
-#[tactic(auto, unfolding(crate::specs::Request::frame_remote))]
-fn frame_remote(what: For, id: u32, extended: bool, s: &[u8], at: usize) -> Line
-    requires { at ≤ length s.now }
-    ensures { result ≡ frame_remote what id extended (words_of (drop at s.now)) }
-{
-    let w = word(s, at);
-    let from = w.from;
-    let to = w.to;
-    match choose(&s[from..to], b"remote", b"data") {
-        Choice::Yes => frame_code(what, id, extended, true, s, to),
-        Choice::No => frame_code(what, id, extended, false, s, to),
-        Choice::Neither => unreadable(Expected::DataOrRemote, &s[from..to]),
-    }
-}
-
-#[tactic(auto, unfolding(crate::specs::Request::frame_kind))]
-fn frame_kind(what: For, id: u32, s: &[u8], at: usize) -> Line
-    requires { at ≤ length s.now }
-    ensures { result ≡ frame_kind what id (words_of (drop at s.now)) }
-{
-    let w = word(s, at);
-    let from = w.from;
-    let to = w.to;
-    match choose(&s[from..to], b"ext", b"std") {
-        Choice::Yes => frame_remote(what, id, true, s, to),
-        Choice::No => frame_remote(what, id, false, s, to),
-        Choice::Neither => unreadable(Expected::StdOrExt, &s[from..to]),
-    }
-}
-
-fn identifier(word: &[u8]) -> u32
-    ensures { result ≡ min (value_of 16 word.now) most }
-{
-    capped(word, 16) as u32
+            code,
+        },
+        rest,
+    ))
 }
 
 #[tactic(auto, unfolding(crate::specs::Request::frame_of))]
-pub(crate) fn frame(what: For, s: &[u8], at: usize) -> Line
-    requires { at ≤ length s.now }
-    ensures { result ≡ frame_of what (words_of (drop at s.now)) }
+pub(crate) fn frame(s: &[u8]) -> Result<Line, Misread<'_>>
+    ensures { read result ≡ frame_of (words_of s.now) }
 {
-    let w = word(s, at);
-    let from = w.from;
-    let to = w.to;
-    if is_number(&s[from..to], 16) {
-        frame_kind(what, identifier(&s[from..to]), s, to)
-    } else {
-        unreadable(Expected::Identifier, &s[from..to])
-    }
+    let (header, rest) = header(s)?;
+    let (acked, rest) = choice(rest, b"ack", b"noack", Expected::AckOrNoack)?;
+    let data = gather(rest)?;
+    Ok(carrying(
+        Asked::Happens(Event::GoodFrame(header, acked, data.count)),
+        data,
+    ))
+}
+
+// Filters don't ask who acknowledged a frame.
+#[tactic(auto, unfolding(crate::specs::Request::hits_of))]
+pub(crate) fn hits(s: &[u8]) -> Result<Line, Misread<'_>>
+    ensures { read result ≡ hits_of (words_of s.now) }
+{
+    let (header, rest) = header(s)?;
+    let data = gather(rest)?;
+    Ok(carrying(Asked::Hits(header, data.count), data))
 }

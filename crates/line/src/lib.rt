@@ -18,7 +18,7 @@ use events::Event;
 use frame::Header;
 
 // What was expected at the place where a line can't be read.
-#[derive(Clone, Copy)]
+#[derive(Clone, Copy, Debug, PartialEq, Eq)]
 pub enum Expected {
     Request,
     Byte,
@@ -49,6 +49,7 @@ pub enum Asked {
     Numbers,
     // Which filters a frame hits: its header, and how many data bytes the line has.
     Hits(Header, usize),
+    // An answer like the others: `read_line` takes any line.
     Unreadable(Expected),
 }
 
@@ -58,15 +59,18 @@ pub struct Line {
     // The bytes of the transfer or of the frame's data, then zeros. A frame's payload is the first eight. A line that
     // can't be read has here the word that stood where another was expected.
     pub bytes: [u8; 16],
-    // How many there are. No more than sixteen bytes of data are kept or counted; of a word sixteen are kept and all
-    // are counted, and it has none where the line ended early.
+    // How many there are, which `bytes` doesn't say: no more than sixteen bytes of data are kept or counted; of a word
+    // sixteen are kept, since there is no heap, and all are counted, and it has none where the line ended early.
     pub count: usize,
 }
 
 // What a line asks for; s has no newline.
+#[tactic(auto, unfolding(crate::specs::Request::read_line))]
 pub fn read_line(s: &[u8]) -> Line
     ensures { result ≡ read_line s.now }
 {
-    let n = words::before_comment(s);
-    requests::request(&s[..n])
+    match requests::request(words::uncommented(s)) {
+        Ok(line) => line,
+        Err(misread) => answers::unreadable(misread),
+    }
 }

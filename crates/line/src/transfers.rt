@@ -1,47 +1,39 @@
 // `spi` and `spi/N`: a transfer.
-ghost use Rattle.std.specs.Prelude.{◌≡◌, ◌≤◌, length, take, drop};
-ghost use Rattle.line.specs.Words.{words_of, same};
-ghost use Rattle.line.specs.Text.{ascii};
-ghost use Rattle.line.specs.Request.{transfer_of, sized_of};
+ghost use Rattle.std.specs.Prelude.{◌≡◌};
+ghost use Rattle.line.specs.Words.{words_of};
+ghost use Rattle.line.specs.Steps.{read};
+ghost use Rattle.line.specs.Request.{transfer_of, lent_of, sized_of};
 
-use crate::answers::{carrying, unreadable};
+use crate::answers::carrying;
 use crate::data::gather;
-use crate::numbers::{capped, is_number};
-use crate::words::is;
+use crate::numbers::capped;
+use crate::words::Misread;
 use crate::{Asked, Expected, Line};
 
-pub(crate) fn transfer(lent: u8, s: &[u8], at: usize) -> Line
-    requires { at ≤ length s.now }
-    ensures { result ≡ transfer_of lent (words_of (drop at s.now)) }
+#[tactic(auto, unfolding(crate::specs::Request::transfer_of))]
+pub(crate) fn transfer(lent: u8, rest: &[u8]) -> Result<Line, Misread<'_>>
+    ensures { read result ≡ transfer_of lent (words_of rest.now) }
 {
-    let d = gather(s, at);
-    carrying(Asked::Transfer(lent), d)
+    let data = gather(rest)?;
+    Ok(carrying(Asked::Transfer(lent), data))
 }
 
-pub(crate) fn is_sized(word: &[u8]) -> bool
-    ensures { result ≡ same (take 4 word.now) (ascii "spi/") }
+#[tactic(auto, unfolding(crate::specs::Request::lent_of))]
+fn lent_of(size: &[u8]) -> Option<u8>
+    ensures { result ≡ lent_of size.now }
 {
-    if word.len() < 4 {
-        false
-    } else {
-        is(&word[..4], b"spi/")
-    }
+    let n = capped(size, 10)?;
+    if n <= 16 { Some(n as u8) } else { None }
 }
 
-// A transfer whose own word says how large the reply buffer is.
+// A transfer whose own word says behind `spi/` how large the reply buffer is.
 #[tactic(auto, unfolding(crate::specs::Request::sized_of))]
-pub(crate) fn sized(word: &[u8], s: &[u8], at: usize) -> Line
-    requires { (4 ≤ length word.now) × (at ≤ length s.now) }
-    ensures { result ≡ sized_of word.now (words_of (drop at s.now)) }
+pub(crate) fn sized<'a>(word: &'a [u8], size: &[u8], rest: &'a [u8]) -> Result<Line, Misread<'a>>
+    ensures { read result ≡ sized_of word.now size.now (words_of rest.now) }
 {
-    if is_number(&word[4..], 10) {
-        let n = capped(&word[4..], 10);
-        if n <= 16 {
-            transfer(n as u8, s, at)
-        } else {
-            unreadable(Expected::Lent, word)
-        }
-    } else {
-        unreadable(Expected::Lent, word)
-    }
+    let lent = lent_of(size).ok_or(Misread {
+        expected: Expected::Lent,
+        word,
+    })?;
+    transfer(lent, rest)
 }

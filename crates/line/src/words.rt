@@ -1,111 +1,80 @@
 // A line's words.
-ghost use Rattle.std.specs.Prelude.{◌≡◌, ◌+◌, ◌≤◌, length, drop};
-ghost use Rattle.line.specs.Words.{before_comment, is_blank, same, choice_of, blanks, letters, Found};
+ghost use Rattle.std.specs.Prelude.{◌≡◌};
+ghost use Rattle.line.specs.Words.{uncommented, before_comment, is_blank, blanks, letters, words_of, choice_of, Cut};
+ghost use Rattle.line.specs.Steps.{word_as, read_on};
 
-// The places where a word begins and ends. With no word left, both are one place.
-#[derive(Clone, Copy)]
-pub struct Span {
-    pub from: usize,
-    pub to: usize,
-}
+use crate::Expected;
 
-// Which of two words.
+// A word that stands where another was expected.
 #[derive(Clone, Copy)]
-pub enum Choice {
-    Yes,
-    No,
-    Neither,
+pub struct Misread<'a> {
+    pub expected: Expected,
+    pub word: &'a [u8],
 }
 
 fn is_blank(b: u8) -> bool
     ensures { result ≡ is_blank b }
 {
-    (b == b' ') | ((b == b'\t') | (b == b'\r'))
+    matches!(b, b' ' | b'\t' | b'\r')
 }
 
-// How many bytes stand before the first `#`.
-pub(crate) fn before_comment(s: &[u8]) -> usize
+// The bytes before the first `#`.
+pub(crate) fn uncommented(s: &[u8]) -> &[u8]
+    ensures { result.now ≡ uncommented s.now }
+{
+    let (front, _) = s.split_at(before_comment(s));
+    front
+}
+
+fn before_comment(s: &[u8]) -> usize
     ensures { result ≡ before_comment s.now }
 {
-    let mut i: usize = 0;
-    while i < s.len() {
-        if s[i] == b'#' {
-            return i;
-        }
-        i += 1;
-    }
-    i
+    s.iter().take_while(|&&b| b != b'#').count()
 }
 
-// Past the blanks.
-fn start(s: &[u8], at: usize) -> usize
-    requires { at ≤ length s.now }
-    ensures { result ≡ at + blanks (drop at s.now) }
+fn blanks(s: &[u8]) -> usize
+    ensures { result ≡ blanks s.now }
 {
-    let mut i = at;
-    while i < s.len() {
-        if is_blank(s[i]) {
-            i += 1;
-        } else {
-            return i;
-        }
-    }
-    i
+    s.iter().take_while(|&&b| is_blank(b)).count()
 }
 
-// Past the bytes that aren't blank.
-fn end(s: &[u8], at: usize) -> usize
-    requires { at ≤ length s.now }
-    ensures { result ≡ at + letters (drop at s.now) }
+fn letters(s: &[u8]) -> usize
+    ensures { result ≡ letters s.now }
 {
-    let mut i = at;
-    while i < s.len() {
-        if is_blank(s[i]) {
-            return i;
-        }
-        i += 1;
-    }
-    i
+    s.iter().take_while(|&&b| !is_blank(b)).count()
 }
 
-// The next word.
-pub(crate) fn word(s: &[u8], at: usize) -> Span
-    requires { at ≤ length s.now }
-    ensures { Found s.now at result }
+// The first word and what follows it. With no word left, the word is empty.
+pub(crate) fn next_word(s: &[u8]) -> (&[u8], &[u8])
+    ensures { Cut s.now result.0.now result.1.now }
 {
-    let from = start(s, at);
-    let to = end(s, from);
-    Span { from, to }
-}
-
-// Whether a word is that one.
-pub(crate) fn is(word: &[u8], text: &[u8]) -> bool
-    ensures { result ≡ same word.now text.now }
-{
-    if word.len() == text.len() {
-        let mut i: usize = 0;
-        while i < word.len() {
-            if word[i] == text[i] {
-                i += 1;
-            } else {
-                return false;
-            }
-        }
-        true
-    } else {
-        false
-    }
+    let (_, begun) = s.split_at(blanks(s));
+    begun.split_at(letters(begun))
 }
 
 #[tactic(auto, unfolding(crate::specs::Words::choice_of))]
-pub(crate) fn choose(word: &[u8], one: &[u8], other: &[u8]) -> Choice
+fn choice_of(word: &[u8], one: &[u8], other: &[u8]) -> Option<bool>
     ensures { result ≡ choice_of word.now one.now other.now }
 {
-    if is(word, one) {
-        Choice::Yes
-    } else if is(word, other) {
-        Choice::No
+    if word == one {
+        Some(true)
+    } else if word == other {
+        Some(false)
     } else {
-        Choice::Neither
+        None
     }
+}
+
+// The next word, which is one of two: whether it is the first of them, and what follows it.
+pub(crate) fn choice<'a>(
+    s: &'a [u8],
+    one: &[u8],
+    other: &[u8],
+    expected: Expected,
+) -> Result<(bool, &'a [u8]), Misread<'a>>
+    ensures { read_on result ≡ word_as (λ w. choice_of w one.now other.now) expected (words_of s.now) }
+{
+    let (word, rest) = next_word(s);
+    let is_one = choice_of(word, one, other).ok_or(Misread { expected, word })?;
+    Ok((is_one, rest))
 }

@@ -21,24 +21,20 @@ fn mode_changed(d: Device, mode: u8) -> Device
 pub fn ctrl0_written(d: Device, value: u8) -> Device
     ensures { result ≡ ctrl0_written d value }
 {
-    let acting = d.acting;
-    let named = chip::mode_of(value);
     if chip::reset_bit(value) {
         let mut e = flags::reset(d);
         // Initialization mode, and RESET, which stays until the host clears it.
         e.regs.ctrl0 = 0x88;
         return e;
     }
+    let named = chip::mode_of(value);
     let mut e = d;
     e.regs.ctrl0 = value;
-    if named == SLEEP {
-        return e;
+    if named == SLEEP || named == e.acting {
+        e
+    } else {
+        mode_changed(transmit::stopped(e), named)
     }
-    if named == acting {
-        return e;
-    }
-    let f = transmit::stopped(e);
-    mode_changed(f, named)
 }
 
 #[tactic(auto, unfolding(crate::specs::Modes::can_sleep))]
@@ -68,14 +64,11 @@ pub fn bus_quiet(d: Device) -> Device
 pub fn bus_activity(d: Device) -> Device
     ensures { result ≡ bus_activity d }
 {
-    let ctrl0 = d.regs.ctrl0;
     if (d.acting == SLEEP) & chip::wakeup(d) {
-        // MODE is 010 and the lower bits stay.
-        let woken = ctrl0 % 32 + 64;
         let mut e = d;
-        e.regs.ctrl0 = woken;
-        let f = mode_changed(e, MONITOR);
-        flags::raised(f, flags::WAKEUP)
+        // MODE is 010 and the lower bits stay.
+        e.regs.ctrl0 = e.regs.ctrl0 % 32 + 64;
+        flags::raised(mode_changed(e, MONITOR), flags::WAKEUP)
     } else {
         d
     }

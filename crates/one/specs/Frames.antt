@@ -1,11 +1,13 @@
--- One result for each public function of base, commands, frame, to_send and filter. The first line of each names the
--- contract that the function's theorem states (`λ _` passes over the model's resources), the second the definition that
--- it equates the result or the lent memory with, as a function of the parameters (`λ _` passes over the lifetimes).
--- `Law` says what it is to leave one result.
+-- One result for each public function of base, refusal, commands, frame, to_send and filter. The first line of each
+-- names the contract that the function's theorem states (`λ _` passes over the model's resources), the second the
+-- definition that it equates the result or the lent memory with, as a function of the parameters (`λ _` passes over
+-- the lifetimes). `Law` says what it is to leave one result.
 use Rattle.std.specs.Prelude.{refl, ◌≤◌, get_or}
 use Rattle.std.specs.Coded.{coded_list, coded_ℕ}
+use Rattle.base.specs.Bit
 use Rattle.base.specs.Pick
 use Rattle.base.specs.Put
+use Rattle.refusal.specs.Refusal
 use Rattle.commands.specs.Table
 use Rattle.frame.specs.Length
 use Rattle.frame.specs.Tables
@@ -15,6 +17,7 @@ use Rattle.filter.specs.Match
 use Rattle.filter.specs.Hits
 use Rattle.filter.specs.First
 use Rattle.base.specs.contracts as base
+use Rattle.refusal.specs.contracts as refusal
 use Rattle.commands.specs.contracts as commands
 use Rattle.frame.specs.contracts as frame
 use Rattle.to_send.specs.contracts as to_send
@@ -30,10 +33,17 @@ module _ (M : Type 1) where
   pub base-at : OneResult M base.at.ended (λ _. base.at.spec)
   base-at = result (λ _. base.at.clauses) (λ _ s i. get_or s.now i 0) refl
 
+  pub base-is_set : OneResult M base.is_set.ended (λ _. base.is_set.spec)
+  base-is_set = result (λ _. base.is_set.clauses) (λ _. Bit.is_set) refl
+
   pub base-put : OneResult M base.put.ended (λ _. base.put.spec)
   base-put =
       content (λ _. base.put.clauses) (coded_list coded_ℕ) (λ _ w. w.1.0) (λ _ v. (tt, (v, tt)))
       (λ _ reply buffer. Put.put_of reply.now buffer.now) refl
+
+  -- ---- refusal
+  pub refusal-Refusal-number : OneResult M refusal.Refusal.number.ended (λ _. refusal.Refusal.number.spec)
+  refusal-Refusal-number = result (λ _. refusal.Refusal.number.clauses) (λ _. Refusal.number) refl
 
   -- ---- commands
   pub commands-find : OneResult M commands.find.ended (λ _. commands.find.spec)

@@ -9,7 +9,9 @@ use native.Mathlib.Nat.{mod-eq_of_lt}
 use borrow.Author.Tests.{le-leb, ltb-false, not-false}
 use lib.Dec.{eqb, leb}
 use lib.ListN.{length, take, drop, length-take}
+use Rattle.std.proofs.lemmas.Bool.{or_parts}
 use Rattle.base.specs.Bit.{byte}
+use Rattle.std.specs.Prelude.{Some, Ok, Err}
 use Rattle.base.specs.Pick.{pick}
 use Rattle.base.proofs.Booleans.{and_right}
 use Rattle.chip.specs.declared.Device.{Device}
@@ -17,10 +19,11 @@ use Rattle.chip.specs.State.{fresh}
 use Rattle.drawn.specs.Drawn.{int, stat, gp}
 use Rattle.events.specs.declared.Event.{Event}
 use Rattle.judged.specs.Judged.{impossible, no_number_left}
-use Rattle.bus.specs.Event.{number_of, values_of}
+use Rattle.bus.specs.Event.{values_of}
+use Rattle.refusal.specs.declared.Refusal.{Refusal}
+use Rattle.refusal.specs.Refusal.{number as number_for}
 use Rattle.bus.specs.Hits.{hits}
 use Rattle.bus.specs.Pins.{pins}
-use Rattle.commands.specs.declared.Found.TheVariants.{At}
 use Rattle.commands.specs.declared.Row.{Row}
 use Rattle.commands.specs.Table.{rows, lookup}
 use Rattle.refused.specs.Refused.{finds_full, finds_none}
@@ -43,8 +46,7 @@ use Rattle.promise.specs.Records.{Records, start}
 use Rattle.promise.specs.Questions.{Told}
 use Rattle.promise.specs.Registers.{pins_shown}
 use Rattle.promise.specs.Settings.{Settings}
-use Rattle.promise.proofs.Answered.{first, number_of_answer, said_done}
-use Rattle.promise.proofs.Choices.{or_left, or_right}
+use Rattle.promise.proofs.Answered.{first}
 use Rattle.promise.proofs.CommandsKept.{command_kept}
 use Rattle.promise.proofs.EventsKept.{event_agrees}
 use Rattle.promise.proofs.Held.{held_in, held_kept, kept_held}
@@ -58,7 +60,7 @@ use Rattle.promise.proofs.Questions.{told_kept}
 use Rattle.promise.proofs.Ranges.{InRange, count_below}
 use Rattle.promise.proofs.Replies.{command_shows, intf_same, statf_same}
 use Rattle.promise.proofs.Rows.{asked_same}
-use Rattle.promise.proofs.Steps.{keeps, noted_more, refused_transfer, done_transfer, by_transfer, refused_event, said_of, done_event, by_event}
+use Rattle.promise.proofs.Steps.{refusal_counts, keeps, noted_more, refused_transfer, done_transfer, by_transfer, refused_event, said_of, done_event, by_event}
 
 module _ (d : Device) (r : Records) (range : InRange d) (h : Kept d r) where
   -- the device after an input keeps to the records after it, and what was given is due
@@ -75,22 +77,22 @@ module _ (d : Device) (r : Records) (range : InRange d) (h : Kept d r) where
     abbrev a_transfer : Input
     a_transfer = spi bytes buffer
 
-    refused_agrees : (n : ℕ) → eqb n 0 ≡ false → n ≡ number_due (situation_of r) a_transfer → Agrees a_transfer (refused_transfer d n buffer)
-    refused_agrees n some is = (rw some h, rw (← is, some))
+    refused_agrees : (refusal : Refusal) → number_for refusal ≡ number_due (situation_of r) a_transfer → Agrees a_transfer (refused_transfer d refusal buffer)
+    refused_agrees refusal is = (rw (refusal_counts refusal) h, (Err refusal, is, rw (← is, refusal_counts refusal)))
 
-    module _ (row : Row) (at : lookup rows (byte bytes 1) ≡ At row) (is : 0 ≡ number_due (situation_of r) a_transfer) where
+    module _ (row : Row) (at : lookup rows (byte bytes 1) ≡ Some row) (is : 0 ≡ number_due (situation_of r) a_transfer) where
       -- no number of 01's table applies
       unsaid : (n : ℕ) → 1 ≤ n → n < 13 → applies (situation d) a_transfer n ≡ false
       unfolding number_due
       unsaid n = lowest_none (applies (situation d) a_transfer) 12 1 n (omega arith) (ap (λ s. number_due s a_transfer) (situation_same d r range h) ∙ sym is)
 
       some : eqb (length bytes) 0 ≡ false
-      some = or_left (eqb (length bytes) 0) _ (unsaid 3 (omega arith) (omega arith))
+      some = (or_parts (eqb (length bytes) 0) _ (unsaid 3 (omega arith) (omega arith))).0
 
       fits_its_length : pick (eqb (byte bytes 1) 0x12) (message_fits (drop 1 bytes)) true ≡ true
       unfolding transfer_fits
       fits_its_length =
-          let right : transfer_fits bytes ≡ true = not-false (transfer_fits bytes) (or_right (eqb (length bytes) 0) (not (transfer_fits bytes)) (unsaid 3 (omega arith) (omega arith))) in
+          let right : transfer_fits bytes ≡ true = not-false (transfer_fits bytes) (or_parts (eqb (length bytes) 0) (not (transfer_fits bytes)) (unsaid 3 (omega arith) (omega arith))).1 in
           and_right (leb (length bytes) ((lengths_of (byte bytes 1)).most + 1)) _ (and_right (leb ((lengths_of (byte bytes 1)).least + 1) (length bytes)) _ right)
 
       finds_room : finds_full d.tx.count row.verb ≡ false
@@ -113,13 +115,13 @@ module _ (d : Device) (r : Records) (range : InRange d) (h : Kept d r) where
       done_agrees : Agrees a_transfer (done_transfer d row bytes buffer)
       done_agrees = (
         command_kept d r h bytes some row at (finds_room, finds_one, fits_its_length),
-        rw (← is, le-leb (length reply) (length buffer) fits, command_shows d r range h (byte bytes 1) row at finds_one),
+        (Ok tt, is, rw (← is, le-leb (length reply) (length buffer) fits, command_shows d r range h (byte bytes 1) row at finds_one)),
       )
 
     transfer_agrees : Agrees a_transfer (step d a_transfer)
     transfer_agrees =
         by_transfer (Agrees a_transfer) d bytes buffer
-        (λ n e some. refused_agrees n some (ap (λ (s : Step). number s.given) (sym e) ∙ number_same a_transfer))
+        (λ refusal e. refused_agrees refusal (ap (λ (s : Step). number s.given) (sym e) ∙ number_same a_transfer))
         (λ row e at. done_agrees row at (ap (λ (s : Step). number s.given) (sym e) ∙ number_same a_transfer))
 
   -- ---- events
@@ -128,16 +130,15 @@ module _ (d : Device) (r : Records) (range : InRange d) (h : Kept d r) where
     abbrev an_event : Input
     an_event = wire e payload
 
-    refused_event_agrees : (n : ℕ) → eqb n 0 ≡ false → number (refused_event d n).given ≡ number_due (situation_of r) an_event → Agrees an_event (refused_event d n)
-    unfolding number_of values_of
-    refused_event_agrees n some is = (rw some h, (is, rw (← is, some)))
+    refused_event_agrees : (refusal : Refusal) → number_for refusal ≡ number_due (situation_of r) an_event → Agrees an_event (refused_event d refusal)
+    unfolding values_of
+    refused_event_agrees refusal is = (rw (refusal_counts refusal) h, (is, rw (← is, refusal_counts refusal)))
 
-    done_event_agrees : impossible d e ≡ false → no_number_left d (said_of d e payload) ≡ false → number (done_event d e payload (said_of d e payload)).given ≡ number_due (situation_of r) an_event
+    done_event_agrees : impossible d e ≡ false → no_number_left d (said_of d e payload) ≡ false → 0 ≡ number_due (situation_of r) an_event
         → Agrees an_event (done_event d e payload (said_of d e payload))
     done_event_agrees can left is =
-        let number_is = number_of_answer d e payload (said_of d e payload) ∙ said_done d _ _ in
         let agrees = event_agrees d r h (count_below d.rx range.0) e payload can left in
-        (rw number_is agrees.0, (is, rw (← is, number_is) agrees.1))
+        (agrees.0, (is, rw (← is) agrees.1))
 
     event_kept : Agrees an_event (step d an_event)
     event_kept =

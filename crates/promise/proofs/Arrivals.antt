@@ -8,6 +8,7 @@ use borrow.Author.Tests.{leb-true}
 use lib.Bits.{bit_or}
 use lib.Dec.{eqb, leb}
 use lib.ListN.{drop, set as set_at}
+use Rattle.std.specs.Prelude.{Some}
 use Rattle.base.specs.Pick.{pick, flag}
 use Rattle.counters.specs.Rules.{good_frame}
 use Rattle.fifo.specs.Queue.{full, place_over, put_over, latest}
@@ -131,17 +132,17 @@ module _ (d : Device) (r : Records) (h : Kept d r) where
       ∙ header_back lost.header lost.payload lost.time (filhit_of lost.hits) (shown_possible lost (newest_shown d.rx d.serials.places l h.3.2 eight)))
 
   -- a frame that comes
-  module _ (few : d.rx.count ≤ 8) (b : Brought) (comes : b.comes ≡ true) (ok : possible b.header ≡ true) where
+  module _ (few : d.rx.count ≤ 8) (b : Brought) (ok : possible b.header ≡ true) where
     abbrev f : Frame
     f = arriving r b.header b.payload
 
     abbrev set : ℕ
-    set = hits d b
+    set = hits d (Some b)
 
-    hits_same : hits d b ≡ f.hits
+    hits_same : hits d (Some b) ≡ f.hits
     unfolding hits
     hits_same =
-        rw (comes, matching_same b.header b.payload ok)
+        rw (matching_same b.header b.payload ok)
         (ap (λ (s : Settings). pick (filton_bit s) (matching_by r.settings b.header b.payload) 0) h.0)
 
     message_same : message_at d b.header b.payload set ≡ message f

@@ -7,6 +7,7 @@ use native.Mathlib.Omega.{arith}
 use borrow.Author.Tests.{leb-true, leb-false}
 use lib.Dec.{eqb, leb}
 use lib.ListN.{length, get_or, drop, length-map, length-drop, get_or-map}
+use Rattle.std.proofs.lemmas.List.{drop-map}
 use Rattle.base.specs.Pick.{pick}
 use Rattle.fifo.specs.declared.Fifo.{Fifo}
 use Rattle.fifo.specs.declared.Message.{Message}
@@ -69,11 +70,6 @@ taken_cases (suc n) q count = sym (ap (drop 1) (take_waits q n count))
 
 taken_waits : (q : Fifo) → waiting (take_off q) ≡ drop 1 (waiting q)
 taken_waits q = taken_cases q.count q refl
-
-pub map_drop : {A B : Type 0} (f : A → B) (n : ℕ) (xs : List A) → map f (drop n xs) ≡ drop n (map f xs)
-map_drop f zero xs = refl
-map_drop f (suc n) [] = refl
-map_drop f (suc n) (x ∷ xs) = map_drop f n xs
 
 -- ---- each change
 
@@ -176,7 +172,7 @@ module _ (tx : Fifo) (buffer : Message) (sending : ℕ) (history : Fifo) (mtag :
   transmitted_queue : (r : Running) → Runs sending buffer r → waiting (fifo_after tx sending) ≡ map own_message (remaining o.queue r)
   unfolding fifo_after
   transmitted_queue none runs = rw runs h.queue
-  transmitted_queue (first m) runs = rw runs.0 (taken_waits tx ∙ ap (drop 1) h.queue ∙ sym (map_drop own_message 1 o.queue))
+  transmitted_queue (first m) runs = rw runs.0 (taken_waits tx ∙ ap (drop 1) h.queue ∙ drop-map own_message 1 o.queue)
   transmitted_queue (alone m) runs = rw runs.0 h.queue
 
   -- an entry more, unless there are eight
@@ -215,7 +211,7 @@ module _ (tx : Fifo) (buffer : Message) (sending : ℕ) (history : Fifo) (mtag :
     queue = h.queue;
     runs = h.runs;
     pages = rw (taken_items history) h.pages;
-    entries = rw (taken_waits history, map_drop, h.entries);
+    entries = rw (taken_waits history, ← drop-map, h.entries);
     tag = h.tag;
     bound = rw (taken_waits history) (each_rest Entry (waiting history) h.bound);
     sendable = h.sendable;

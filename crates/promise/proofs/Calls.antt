@@ -27,7 +27,7 @@ module _ (M : Type 1) where
       (result-and-content-are (λ _. host.transfer.clauses) (coded_list coded_ℕ) (λ _ w. w.1.1.0) (λ _ v. (tt, (tt, (v, tt))))
       (λ _ d bytes reply. Transfer.transfer d bytes.now (length reply.now))
       (λ _ d bytes reply. Transfer.reply_after d bytes.now reply.now) refl)
-      Step (λ a x. record { device = x.0.device; given = replied x.0.number x.1 }) _ (λ a. refl)
+      Step (λ a x. record { device = x.0.device; given = replied x.0.answer x.1 }) _ (λ a. refl)
 
   events : Events M shipped
   events =

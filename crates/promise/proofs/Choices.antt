@@ -1,7 +1,6 @@
--- What holds of a choice, and of two that are both denied. Assumes nothing.
+-- What holds of a choice. Assumes nothing.
 use mathlib.Core.Path.{◌≡◌, refl}
-use mathlib.Core.Bool.{Bool, true, false, ◌||◌}
-use mathlib.Mathlib.Data.Bool.Basic.{or-eq-false-eq-eq-false-and-eq-false}
+use mathlib.Core.Bool.{Bool, true, false}
 use Rattle.base.specs.Pick.{pick}
 pub use Rattle.base.proofs.Booleans.{pick_keeps, pick_under}
 
@@ -14,10 +13,3 @@ pick_part part false x y = refl
 pub pick_both : {A B : Type 0} (P : A → B → Type 0) (t : Bool) (x y : A) (u v : B) → P x u → P y v → P (pick t x y) (pick t u v)
 pick_both P true x y u v p q = p
 pick_both P false x y u v p q = q
-
--- neither of two holds
-pub or_left : (a b : Bool) → (a || b) ≡ false → a ≡ false
-or_left a b e = ((or-eq-false-eq-eq-false-and-eq-false a b).0 e).0
-
-pub or_right : (a b : Bool) → (a || b) ≡ false → b ≡ false
-or_right a b e = ((or-eq-false-eq-eq-false-and-eq-false a b).0 e).1

@@ -7,14 +7,15 @@ use native.Mathlib.Omega.{arith}
 use borrow.Author.Tests.{eqb-false}
 use lib.Dec.{eqb}
 use lib.ListN.{length, drop, set, length-set}
+use Rattle.std.proofs.lemmas.List.{map-set}
 use Rattle.base.specs.Bit.{byte}
+use Rattle.std.specs.Prelude.{Some}
 use Rattle.base.specs.Pick.{pick, among}
 use Rattle.counters.specs.Rules.{test_rec, test_tec}
 use Rattle.chip.specs.declared.Device.{Device}
 use Rattle.chip.specs.declared.Pattern.{Pattern}
 use Rattle.chip.specs.Parts.{with_filters as filters-in, with_masks as masks-in}
 use Rattle.transmit.specs.Transmit.{aborted, cleared, stopped}
-use Rattle.commands.specs.declared.Found.TheVariants.{At}
 use Rattle.commands.specs.declared.Row.{Row}
 use Rattle.commands.specs.Table.{rows, lookup}
 use Rattle.commands.specs.Verbs.{write_message}
@@ -30,7 +31,6 @@ use Rattle.promise.specs.Held.{Banked}
 use Rattle.promise.specs.Records.{Records, with_ledger, with_outbox, with_settings}
 use Rattle.promise.specs.Settings.{Settings, six, disabled, with_ctrl1, with_btr0, with_btr1, with_inte, with_statfe, with_gpine, with_filters, with_masks}
 use Rattle.promise.proofs.Among.{◌and◌}
-use Rattle.promise.proofs.Banks.{map_set}
 use Rattle.promise.proofs.Boxes.{halted_boxed, cleared_boxed, written_boxed, read_boxed}
 use Rattle.promise.proofs.Each.{each_set}
 use Rattle.promise.proofs.Kept.{Kept}
@@ -83,7 +83,7 @@ module _ (d : Device) (r : Records) (h : Kept d r) (bytes : List ℕ) (some : eq
       → Kept (filters-in d (set d.filters k (pattern bytes))) (with_settings r (with_filters r.settings (set r.settings.filters k (six bytes))))
   unfolding pattern
   filter k a = (
-    rw (map_set (λ (p : Pattern). p.bytes) d.filters k (pattern bytes))
+    rw (map-set (λ (p : Pattern). p.bytes) d.filters k (pattern bytes))
         (ap (λ (s : Settings). with_filters s (set s.filters k (six bytes))) h.0),
     (banked_set d.filters k bytes h.1.0, h.1.1),
     h.2,
@@ -95,7 +95,7 @@ module _ (d : Device) (r : Records) (h : Kept d r) (bytes : List ℕ) (some : eq
       → Kept (masks-in d (set d.masks k (pattern bytes))) (with_settings r (with_masks r.settings (set r.settings.masks k (six bytes))))
   unfolding pattern
   mask k a = (
-    rw (map_set (λ (p : Pattern). p.bytes) d.masks k (pattern bytes))
+    rw (map-set (λ (p : Pattern). p.bytes) d.masks k (pattern bytes))
         (ap (λ (s : Settings). with_masks s (set s.masks k (six bytes))) h.0),
     (h.1.0, banked_set d.masks k bytes h.1.1),
     h.2,
@@ -137,7 +137,7 @@ module _ (d : Device) (r : Records) (h : Kept d r) (bytes : List ℕ) (some : eq
       and tt
 
 pub command_kept : (d : Device) (r : Records) (h : Kept d r) (bytes : List ℕ) (some : eqb (length bytes) 0 ≡ false) (row : Row)
-    → lookup rows (byte bytes 1) ≡ At row → Passes d r h bytes some (byte bytes 1) row
+    → lookup rows (byte bytes 1) ≡ Some row → Passes d r h bytes some (byte bytes 1) row
     → Kept (does d row.verb row.index bytes) (commanded r bytes)
 unfolding commanded
 command_kept d r h bytes some row at = at_row (Keeps d r h bytes some) rows (byte bytes 1) row at (keeps d r h bytes some)

@@ -6,6 +6,7 @@ use Prim.Native.Nat.{ℕ, ◌+◌}
 use native.Mathlib.Nat.{add-zero}
 use lib.Dec.{eqb}
 use lib.ListN.{length}
+use Rattle.std.specs.Prelude.{Option, Some, None, Ok}
 use Rattle.base.specs.Bit.{byte}
 use Rattle.base.specs.Pick.{pick, flag}
 use Rattle.chip.specs.declared.Device.{Device}
@@ -22,10 +23,9 @@ use Rattle.events.specs.declared.Event.{Event}
 use Rattle.events.specs.declared.Event.TheVariants.{GoodFrame, ReceiveError, DominantBit, TransmitError, Begun, Completed}
 use Rattle.events.specs.declared.Event.TheVariants.{ArbitrationLost, ElevenRecessive, BusQuiet, BusActivity, Ticks, TxenPin, MrPin}
 use Rattle.events.specs.declared.Event.TheVariants.{Unknown}
-use Rattle.judged.specs.declared.Answer.TheVariants.{Done, Arrived}
 use Rattle.judged.specs.Judged.{reason, said, no_number_left, brings}
 use Rattle.changed.specs.Changed.{heard, taken, receive_error_met, dominant_met, transmit_error_met, recessive_met, ticked, pin_set, arrival, after}
-use Rattle.bus.specs.Event.{arrival_values, values_of}
+use Rattle.bus.specs.Event.{arrival_values, values_of, changed}
 use Rattle.done.specs.Done.{register_changed, message_taken, entry_taken, receive_cleared, time_reset, message_written, filter_written}
 use Rattle.done.specs.Done.{mask_written, rec_written, tec_written, deeds, does}
 use Rattle.promise.specs.Promises.{NothingElseMovesTheCount}
@@ -34,7 +34,7 @@ use Rattle.promise.specs.Numbering.{gives_one}
 use Rattle.promise.proofs.Among.{◌and◌, among_keeps}
 use Rattle.promise.proofs.Choices.{pick_keeps}
 use Rattle.promise.proofs.EventsKept.{finds_number}
-use Rattle.promise.proofs.Steps.{refused_transfer, done_transfer, by_transfer, refused_event, done_event, by_event}
+use Rattle.promise.proofs.Steps.{refused_transfer, done_transfer, by_transfer, refused_event, by_event}
 
 module _ (d : Device) where
   abbrev Same : Device → Type 0
@@ -100,7 +100,7 @@ module _ (d : Device) where
       pick_keeps (λ (e : Device). e.serials.last ≡ d.serials.last + 1) b.own _ _ next next
   arrival_cases false b set what out left = activity_same ∙ sym (add-zero d.serials.last)
 
-  arrival_counts : (b : Brought) (set : ℕ) (what : Arrival) → no_number_left d (Arrived what) ≡ false
+  arrival_counts : (b : Brought) (set : ℕ) (what : Arrival) → no_number_left d (Some what) ≡ false
       → (arrival d b set what).serials.last ≡ d.serials.last + flag (reaches_temporary what)
   unfolding arrival
   arrival_counts b set what left = arrival_cases (reaches_temporary what) b set what refl (finds_number d what left)
@@ -113,7 +113,7 @@ module _ (d : Device) where
   stays : (s : Step) → Same s.device → gives_one s.given ≡ false → Counts s
   stays s same none = rw (same, none) (sym (add-zero d.serials.last))
 
-  gives-one : (what : Arrival) → reaches_temporary what ≡ gives_one (answered (Arrived what))
+  gives-one : (what : Arrival) → reaches_temporary what ≡ gives_one (answered (Ok (Some what)))
   unfolding reaches_temporary values_of arrival_values
   gives-one Queued = refl
   gives-one (QueuedOver id extended) = refl
@@ -123,22 +123,22 @@ module _ (d : Device) where
   gives-one A4 = refl
 
   -- by whether a frame comes
-  event_cases : (e : Event) (payload : List ℕ) (t : Bool) (what : Arrival) → no_number_left d (pick t (Arrived what) Done) ≡ false
-      → Counts (done_event d e payload (pick t (Arrived what) Done))
-  unfolding values_of
-  event_cases e payload true what left =
-      let b = brings d e payload in
-      arrival_counts b (hits d b) what left ∙ ap (λ (t : Bool). d.serials.last + flag t) (gives-one what)
-  event_cases e payload false what left = stays (done_event d e payload Done) (after_same e) refl
+  event_cases : (e : Event) (b : Option Brought) → let told = said d b (hits d b) in no_number_left d told ≡ false
+      → Counts (record { device = changed d e b (hits d b) told; given = answered (Ok told) })
+  unfolding said values_of
+  event_cases e None left = stays (record { device = after d e; given = answered (Ok None) }) (after_same e) refl
+  event_cases e (Some b) left =
+      let set = hits d (Some b) in
+      let what = reason d b set in
+      arrival_counts b set what left ∙ ap (λ (t : Bool). d.serials.last + flag t) (gives-one what)
 
 pub counts_on : NothingElseMovesTheCount
-unfolding said values_of
+unfolding values_of
 counts_on d (spi bytes buffer) =
     by_transfer (Counts d) d bytes buffer
-    (λ n e wrong. stays d (refused_transfer d n buffer) refl refl)
+    (λ refusal e. stays d (refused_transfer d refusal buffer) refl refl)
     (λ row e at. stays d (done_transfer d row bytes buffer) (does_same d row.verb row.index bytes) refl)
 counts_on d (wire e payload) =
-    let b = brings d e payload in
     by_event (Counts d) d e payload
-    (λ n wrong. stays d (refused_event d n) refl refl)
-    (λ can left. event_cases d e payload b.comes (reason d b (hits d b)) left)
+    (λ refusal. stays d (refused_event d refusal) refl refl)
+    (λ can left. event_cases d e (brings d e payload) left)

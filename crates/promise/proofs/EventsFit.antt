@@ -6,6 +6,7 @@ use Prim.Native.Nat.{ℕ, ◌+◌}
 use native.Mathlib.Omega.{arith}
 use borrow.Author.Tests.{le-leb, not-false}
 use lib.Dec.{eqb, leb, ltb}
+use Rattle.std.specs.Prelude.{Option, Some, None, Ok}
 use Rattle.base.specs.Bit.{byte}
 use Rattle.base.proofs.Booleans.{and_left, and_right}
 use Rattle.counters.specs.Rules.{receive_error, dominant_bit, good_frame, transmit_error, completed, eleven_recessive, groups_after}
@@ -22,10 +23,10 @@ use Rattle.events.specs.declared.ErrorKind.{ErrorKind}
 use Rattle.events.specs.declared.Event.{Event}
 use Rattle.events.specs.declared.Event.TheVariants.{GoodFrame, ReceiveError, DominantBit, TransmitError, Begun, Completed, ArbitrationLost, ElevenRecessive}
 use Rattle.events.specs.declared.Event.TheVariants.{BusQuiet, BusActivity, Ticks, TxenPin, MrPin, Unknown}
-use Rattle.judged.specs.declared.Answer.{Answer}
 use Rattle.judged.specs.Judged.{impossible, reason, said, brings}
 use Rattle.changed.specs.Changed.{err_bit, counted_frame, heard, taken, counted_receive_error, receive_error_met, dominant_met, counted_transmit_error}
 use Rattle.changed.specs.Changed.{transmit_error_met, recessive_met, ticked, pin_set, arrival, after}
+use Rattle.bus.specs.Event.{changed}
 use Rattle.promise.proofs.Choices.{pick_under}
 use Rattle.promise.proofs.Ranges.{InRange, put_fits, over_fits, take_fits}
 use Rattle.promise.proofs.Fits.{Grouped, woken, errs_more, tag_fits, some_wait}
@@ -176,11 +177,12 @@ after_in d h (TxenPin level) possible = pin_in d h level
 after_in d h MrPin possible = reset_in d h
 after_in d h Unknown possible = h
 
--- every event that is possible
-pub event_in : (d : Device) → InRange d → (e : Event) (payload : List ℕ) → impossible d e ≡ false → InRange (outcome_of d e payload (said_of d e payload)).device
+-- by whether it brings one
+changed_in : (d : Device) → InRange d → (e : Event) → impossible d e ≡ false → (b : Option Brought) → InRange (changed d e b (hits d b) (said d b (hits d b)))
 unfolding said
-event_in d h e payload possible =
-    let b = brings d e payload in
-    pick_under (λ (a : Answer). InRange (outcome_of d e payload a).device) b.comes _ _
-    (λ comes. arrival_in d h b (hits d b) (reason d b (hits d b)))
-    (λ none. after_in d h e possible)
+changed_in d h e possible None = after_in d h e possible
+changed_in d h e possible (Some b) = arrival_in d h b (hits d (Some b)) (reason d b (hits d (Some b)))
+
+-- every event that is possible
+pub event_in : (d : Device) → InRange d → (e : Event) (payload : List ℕ) → impossible d e ≡ false → InRange (outcome_of d e payload (Ok (said_of d e payload))).device
+event_in d h e payload possible = changed_in d h e possible (brings d e payload)

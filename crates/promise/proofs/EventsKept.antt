@@ -7,6 +7,7 @@ use native.Mathlib.Omega.{arith}
 use borrow.Author.Tests.{not-true, not-false}
 use lib.Bits.{bit_or}
 use lib.Dec.{eqb}
+use Rattle.std.specs.Prelude.{Option, Some, None, Ok}
 use Rattle.base.specs.Pick.{pick}
 use Rattle.base.proofs.Booleans.{and_left, and_right}
 use Rattle.counters.specs.Rules.{receive_error, dominant_bit, transmit_error, completed, eleven_recessive}
@@ -18,19 +19,17 @@ use Rattle.flags.specs.Flags.{raised, bus_error}
 use Rattle.transmit.specs.Transmit.{can_begin, without_tx1m as tx1m_cleared, ctrl1_begun, begun, stopped, counted_completion, transmitted}
 use Rattle.receive.specs.declared.Arrival.{Arrival}
 use Rattle.receive.specs.declared.Brought.{Brought}
-use Rattle.receive.specs.Receive.{hits, reaches_temporary, arrived, own_frame}
+use Rattle.receive.specs.Receive.{hits, reaches_temporary, arrived, own_header, own_data, own_frame}
 use Rattle.events.specs.declared.ErrorKind.{ErrorKind}
 use Rattle.events.specs.declared.ErrorKind.TheVariants.{Stuff, Ack, Crc, Form, Bit}
 use Rattle.events.specs.declared.Event.{Event}
 use Rattle.events.specs.declared.Event.TheVariants.{GoodFrame, ReceiveError, DominantBit, TransmitError, Begun, Completed}
 use Rattle.events.specs.declared.Event.TheVariants.{ArbitrationLost, ElevenRecessive, BusQuiet, BusActivity, Ticks, TxenPin, MrPin}
 use Rattle.events.specs.declared.Event.TheVariants.{Unknown}
-use Rattle.judged.specs.declared.Answer.{Answer}
-use Rattle.judged.specs.declared.Answer.TheVariants.{Arrived, Done}
-use Rattle.judged.specs.Judged.{runs, impossible_frame, impossible, reason, said, gives_number, no_number_left, bus_frame, nothing as nobody, brings}
+use Rattle.judged.specs.Judged.{runs, impossible_frame, impossible, reason, said, gives_number, no_number_left, bus_frame, brings}
 use Rattle.changed.specs.Changed.{err_bit, counted_receive_error, receive_error_met, dominant_met, counted_transmit_error, transmit_error_met}
 use Rattle.changed.specs.Changed.{recessive_met, ticked, pin_set, arrival, after}
-use Rattle.bus.specs.Event.{arrival_values, values_of, outcome}
+use Rattle.bus.specs.Event.{arrival_values, values_of, changed}
 use Rattle.promise.specs.Counting.{group_met}
 use Rattle.promise.specs.Flags.{txcplt, kind_bit}
 use Rattle.promise.specs.Frames.{Frame}
@@ -90,7 +89,7 @@ module _ (d : Device) (r : Records) (h : Kept d r) where
 -- ---- what an event says, and leaves
 
 -- where 12 is not due, a frame that gets a number finds one
-pub finds_number : (d : Device) (what : Arrival) → no_number_left d (Arrived what) ≡ false → reaches_temporary what ≡ true → spent d ≡ false
+pub finds_number : (d : Device) (what : Arrival) → no_number_left d (Some what) ≡ false → reaches_temporary what ≡ true → spent d ≡ false
 unfolding no_number_left gives_number
 finds_number d what left reaches = sym (ap (λ (t : Bool). t && spent d) reaches) ∙ left
 
@@ -106,17 +105,18 @@ module _ (d : Device) (r : Records) (h : Kept d r) (few : d.rx.count ≤ 8) wher
     m = in_flight r.outbox.running
 
     abbrev b : Brought
-    b = own_frame d
+    b = record { own = true; acknowledged = true; header = own_header d; payload = own_data d }
+
+    abbrev set : ℕ
+    set = hits d (Some b)
 
     abbrev told : Arrival
-    told = reason d b (hits d b)
+    told = reason d b set
 
     header_is : b.header ≡ m.header
-    unfolding own_frame
     header_is = rw (buffer_runs _ _ _ _ _ _ h.4 some) (header_of m h.4.flying)
 
     data_is : b.payload ≡ m.eight
-    unfolding own_frame
     data_is = rw (buffer_runs _ _ _ _ _ _ h.4 some) (eight_of m h.4.flying)
 
     own_same : arriving r b.header b.payload ≡ own r
@@ -125,68 +125,63 @@ module _ (d : Device) (r : Records) (h : Kept d r) (few : d.rx.count ≤ 8) wher
     own_possible : possible b.header ≡ true
     own_possible = rw header_is (header_possible m h.4.flying)
 
-    its_own : b.own ≡ true
-    unfolding own_frame
-    its_own = refl
+    own_left : no_number_left d (Some told) ≡ false → spent d ≡ false
+    own_left left = finds_number d told left (own_reaches d r h few b own_possible refl)
 
-    module _ (comes : b.comes ≡ true) where
-      own_left : no_number_left d (pick b.comes (Arrived told) Done) ≡ false → spent d ≡ false
-      own_left left =
-          finds_number d told (sym (ap (λ (t : Bool). no_number_left d (pick t (Arrived told) Done)) comes) ∙ left)
-          (own_reaches d r h few b comes own_possible its_own)
+    own_says : arrival_values told ≡ due_of r (frame (own r) [])
+    own_says = own_due d r h few b own_possible refl ∙ ap (λ (f : Frame). due_of r (frame f [])) own_same
 
-      own_says : arrival_values told ≡ due_of r (frame (own r) [])
-      own_says = own_due d r h few b comes own_possible its_own ∙ ap (λ (f : Frame). due_of r (frame f [])) own_same
+    own_kept : spent d ≡ false → Kept (arrival d b set told) (completed_met (arrival_met r (own r) (reason_of told)))
+    own_kept left =
+        rw (own_taken d r h few b own_possible refl)
+        (subst (λ (f : Frame). Kept (transmitted (arrived d b set told)) (completed_met (arrival_met r f (reason_of told)))) own_same
+        (transmitted_kept (arrived d b set told) (arrival_met r (arriving r b.header b.payload) (reason_of told))
+        (arrival_kept d r h few b own_possible told (finds d r h few b own_possible) left) some))
 
-      own_kept : spent d ≡ false → Kept (arrival d b (hits d b) told) (completed_met (arrival_met r (own r) (reason_of told)))
-      own_kept left =
-          rw (own_taken d r h few b comes own_possible its_own)
-          (subst (λ (f : Frame). Kept (transmitted (arrived d b (hits d b) told)) (completed_met (arrival_met r f (reason_of told)))) own_same
-          (transmitted_kept (arrived d b (hits d b) told) (arrival_met r (arriving r b.header b.payload) (reason_of told))
-          (arrival_kept d r h few b comes own_possible told (finds d r h few b comes own_possible) left) some))
+    -- what comes back of it, if it does
+    abbrev back : Bool → Option Brought
+    back t = pick t (Some b) None
 
-    -- by whether it comes, as the device and as the records have it
+    abbrev said_back : Bool → Option Arrival
+    said_back t = said d (back t) (hits d (back t))
+
+    -- by whether it does, as the device and as the records have it
     abbrev Agreeing : Bool → Bool → Type 0
     Agreeing t u =
         Kept
-        (outcome d Completed b (hits d b) (pick t (Arrived told) Done)).device
+        (changed d Completed (back t) (hits d (back t)) (said_back t))
         (completed_met (pick u (arrival_met r (own r) (fate (due_of r (pick u (frame (own r) []) nothing)))) r))
-        × (values_of (outcome d Completed b (hits d b) (pick t (Arrived told) Done)).answer ≡ due_of r (pick u (frame (own r) []) nothing))
+        × (values_of (Ok (said_back t)) ≡ due_of r (pick u (frame (own r) []) nothing))
 
-    by_mode : (t : Bool) → b.comes ≡ t → no_number_left d (pick b.comes (Arrived told) Done) ≡ false → Agreeing t t
-    unfolding after values_of
-    by_mode true comes left = (
-      subst (λ (n : ℕ). Kept (arrival d b (hits d b) told) (completed_met (arrival_met r (own r) n))) (ap fate (own_says comes))
-          (own_kept comes (own_left comes left)),
-      own_says comes,
+    by_mode : (t : Bool) → no_number_left d (said_back t) ≡ false → Agreeing t t
+    unfolding said after values_of
+    by_mode true left = (
+      subst (λ (n : ℕ). Kept (arrival d b set told) (completed_met (arrival_met r (own r) n))) (ap fate own_says) (own_kept (own_left left)),
+      own_says,
     )
-    by_mode false none left = (transmitted_kept d r h some, refl)
+    by_mode false left = (transmitted_kept d r h some, refl)
 
-    own_comes : b.comes ≡ eqb r.settings.acting loopback
-    unfolding own_frame
-    own_comes = ap (λ a. eqb a loopback) (acts d r h)
-
-    own_agrees : no_number_left d (pick b.comes (Arrived told) Done) ≡ false → Agreeing b.comes (eqb r.settings.acting loopback)
+    own_agrees : no_number_left d (said_back (eqb d.acting loopback)) ≡ false → Agreeing (eqb d.acting loopback) (eqb r.settings.acting loopback)
     own_agrees left =
-        subst (λ (t : Bool). Agreeing t (eqb r.settings.acting loopback)) (sym own_comes)
-        (by_mode (eqb r.settings.acting loopback) own_comes left)
+        subst (λ (u : Bool). Agreeing (eqb d.acting loopback) u) (ap (λ a. eqb a loopback) (acts d r h)) (by_mode (eqb d.acting loopback) left)
 
   -- ---- each event
 
   -- the device keeps to the records, and the answer has the values that are due
-  abbrev Agrees : Event → List ℕ → Answer → Type 0
-  Agrees e payload a =
-      Kept (outcome_of d e payload a).device (happened r e payload (fate (values_due r e payload)))
-      × (values_of (outcome_of d e payload a).answer ≡ values_due r e payload)
+  abbrev Agrees : Event → List ℕ → Option Arrival → Type 0
+  Agrees e payload told =
+      Kept (outcome_of d e payload (Ok told)).device (happened r e payload (fate (values_due r e payload)))
+      × (values_of (Ok told) ≡ values_due r e payload)
 
   pub event_agrees : (e : Event) (payload : List ℕ) → impossible d e ≡ false → no_number_left d (said_of d e payload) ≡ false → Agrees e payload (said_of d e payload)
-  unfolding said brings bus_frame nobody after happened impossible impossible_frame receive_error_met bus_error raised counted_receive_error receive_error dominant_met dominant_bit
+  unfolding said brings bus_frame own_frame after happened impossible impossible_frame receive_error_met bus_error raised counted_receive_error receive_error dominant_met dominant_bit
       transmit_error_met counted_transmit_error transmit_error stopped recessive_met eleven_recessive ticked pin_set values_of
   event_agrees (GoodFrame header acknowledged count) payload can left =
       let b : Brought = bus_frame header acknowledged payload in
       let ok = and_left (possible header) _ (not-false (possible header && data_fits header count) can) in
-      let due = bus_due d r h few b refl ok refl in (
-        rw (← due) (frame_kept d r h few b refl ok (reason d b (hits d b)) (finds d r h few b refl ok) refl (finds_number d (reason d b (hits d b)) left)),
+      let what = reason d b (hits d (Some b)) in
+      let due = bus_due d r h few b ok refl in (
+        rw (← due) (frame_kept d r h few b ok what (finds d r h few b ok) refl (finds_number d what left)),
         due,
       )
   event_agrees (ReceiveError kind) payload can left = (

@@ -7,6 +7,7 @@ use Prim.Native.Nat.{ℕ, ◌<◌}
 use borrow.Author.Tests.{eqb-true, not-false}
 use lib.Dec.{eqb}
 use lib.ListN.{get_or, replicate, get_or-map}
+use Rattle.std.specs.Prelude.{Option, Some, None, Ok, Err}
 use Rattle.base.specs.Pick.{pick}
 use Rattle.base.proofs.Booleans.{and_left, and_right}
 use Rattle.base.proofs.Lists.{table_at}
@@ -22,16 +23,16 @@ use Rattle.chip.specs.declared.Pattern.{Pattern}
 use Rattle.chip.specs.Proper.{proper}
 use Rattle.chip.specs.State.{absent, bank, filton}
 use Rattle.receive.specs.declared.Arrival.TheVariants.{Queued, QueuedOver, A1, A2, A3, A4}
+use Rattle.receive.specs.declared.Arrival.{Arrival}
 use Rattle.receive.specs.declared.Brought.{Brought}
+use Rattle.refusal.specs.declared.Refusal.TheVariants.{OutOfRange, Impossible, NoNumberLeft}
 use Rattle.receive.specs.Receive.{matching, hits, over_latest, filters_and_room}
-use Rattle.judged.specs.declared.Answer.{Answer}
-use Rattle.judged.specs.declared.Answer.TheVariants.{Refused, Done, Arrived}
 use Rattle.judged.specs.Judged.{impossible_frame, impossible, takes_no_frames, unacknowledged, reason, said, no_number_left, bus_frame, brings}
 use Rattle.events.specs.declared.Event.TheVariants.{GoodFrame}
-use Rattle.bus.specs.Event.{answered as answered_by, answer, event}
+use Rattle.bus.specs.Event.{Answer, answered as answered_by, answer, event}
 use Rattle.why.specs.declared.Place.{Place}
 use Rattle.why.specs.Why.{place_in, places, is_a4, no_filter, explained}
-use Rattle.promise.specs.Explanations.{no_place, EachHasOne}
+use Rattle.promise.specs.Explanations.{EachHasOne}
 use Rattle.promise.specs.Promises.{TheReasonIsTheDevices, EachPlaceIsTheFirst}
 use Rattle.promise.specs.Sequence.{answered}
 use Rattle.promise.specs.Settings.{patterns}
@@ -49,7 +50,8 @@ the_devices d h acknowledged count payload =
 
 -- ---- A4: no filter matches
 
-a4_alone : (p i n : Bool) (s : Answer) → no_filter (pick p (pick i (Refused 8) (pick n (Refused 12) s)) (Refused 1)) ≡ true → (i ≡ false) × (no_filter s ≡ true)
+a4_alone : (p i n : Bool) (told : Option Arrival) → no_filter (pick p (pick i (Err Impossible) (pick n (Err NoNumberLeft) (Ok told))) (Err OutOfRange)) ≡ true
+    → (i ≡ false) × (no_filter (Ok told) ≡ true)
 unfolding no_filter
 a4_alone true true n s e = absurd (false≢true e)
 a4_alone true false true s e = absurd (false≢true e)
@@ -66,18 +68,18 @@ for_the_filters false false false true full id extended e = refl
 for_the_filters false false false false true id extended e = absurd (false≢true e)
 for_the_filters false false false false false id extended e = absurd (false≢true e)
 
-pub is-a4 : (a : Answer) → no_filter a ≡ true → a ≡ Arrived A4
+pub is-a4 : (a : Answer) → no_filter a ≡ true → a ≡ Ok (Some A4)
 unfolding no_filter is_a4
-is-a4 (Refused n) e = absurd (false≢true e)
-is-a4 Done e = absurd (false≢true e)
-is-a4 (Arrived Queued) e = absurd (false≢true e)
-is-a4 (Arrived (QueuedOver id extended)) e = absurd (false≢true e)
-is-a4 (Arrived A1) e = absurd (false≢true e)
-is-a4 (Arrived A2) e = absurd (false≢true e)
-is-a4 (Arrived A3) e = absurd (false≢true e)
-is-a4 (Arrived A4) e = refl
+is-a4 (Err refused) e = absurd (false≢true e)
+is-a4 (Ok None) e = absurd (false≢true e)
+is-a4 (Ok (Some Queued)) e = absurd (false≢true e)
+is-a4 (Ok (Some (QueuedOver id extended))) e = absurd (false≢true e)
+is-a4 (Ok (Some A1)) e = absurd (false≢true e)
+is-a4 (Ok (Some A2)) e = absurd (false≢true e)
+is-a4 (Ok (Some A3)) e = absurd (false≢true e)
+is-a4 (Ok (Some A4)) e = refl
 
-pub a4_is : (a : Answer) → a ≡ Arrived A4 → no_filter a ≡ true
+pub a4_is : (a : Answer) → a ≡ Ok (Some A4) → no_filter a ≡ true
 unfolding no_filter is_a4
 a4_is a e = ap no_filter e
 
@@ -89,11 +91,11 @@ module _ (d : Device) (h : Header) (acknowledged : Bool) (count : ℕ) (payload 
   abbrev told : Answer
   told = answer d (GoodFrame h acknowledged count) payload
 
-  abbrev brought : Brought
-  brought = bus_frame h acknowledged payload
+  abbrev brought : Option Brought
+  brought = Some (bus_frame h acknowledged payload)
 
   module _ (a4 : no_filter told ≡ true) where
-    parts : (impossible d (GoodFrame h acknowledged count) ≡ false) × (no_filter (said d brought (hits d brought)) ≡ true)
+    parts : (impossible d (GoodFrame h acknowledged count) ≡ false) × (no_filter (Ok (said d brought (hits d brought))) ≡ true)
     unfolding answer answered_by brings
     parts =
         let s = said d brought (hits d brought) in
@@ -120,9 +122,9 @@ module _ (d : Device) (h : Header) (acknowledged : Bool) (count : ℕ) (payload 
     unfolding matching hits_of
     misses k l = set_none (matches_at (bank d.filters) (bank d.masks) (compared_by h payload)) 8 none k l
 
-    place_at : (k : ℕ) → k < 8 → get_or (places d h payload) k no_place ≡ place_in (bank d.filters) (bank d.masks) (compared_by h payload) k
+    place_at : (k : ℕ) → k < 8 → get_or (places d h payload) k None ≡ place_in (bank d.filters) (bank d.masks) (compared_by h payload) k
     unfolding places
-    place_at k l = table_at (place_in (bank d.filters) (bank d.masks) (compared_by h payload)) no_place 8 k l
+    place_at k l = table_at (place_in (bank d.filters) (bank d.masks) (compared_by h payload)) None 8 k l
 
     each_has_one : EachHasOne d h payload (places d h payload)
     unfolding places
@@ -138,7 +140,7 @@ unfolding explained
 is_pointed d h acknowledged count payload = (
   λ e.
       let a4 : no_filter (told d h acknowledged count payload) ≡ true = a4_is (told d h acknowledged count payload) e in
-      subst (λ (ps : List Place). EachHasOne d h payload ps)
-      (sym (ap (λ (t : Bool). pick t (places d h payload) (replicate 8 no_place)) a4)) (each_has_one d h acknowledged count payload a4),
-  λ other. ap (λ (t : Bool). pick t (places d h payload) (replicate 8 no_place)) (eq-false_of_not-eq-true (λ t. other (is-a4 (told d h acknowledged count payload) t))),
+      subst (λ (ps : List (Option Place)). EachHasOne d h payload ps)
+      (sym (ap (λ (t : Bool). pick t (places d h payload) (replicate 8 None)) a4)) (each_has_one d h acknowledged count payload a4),
+  λ other. ap (λ (t : Bool). pick t (places d h payload) (replicate 8 None)) (eq-false_of_not-eq-true (λ t. other (is-a4 (told d h acknowledged count payload) t))),
 )

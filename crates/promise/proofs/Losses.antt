@@ -8,8 +8,8 @@ use Prim.Native.Nat.{ℕ}
 use native.Mathlib.Omega.{arith}
 use borrow.Author.Tests.{eqb-true, leb-true}
 use lib.Dec.{eqb, leb}
-use lib.ListN.{length, set, drop}
-use lib.Seq.{drop-append_seam}
+use lib.ListN.{length, set}
+use Rattle.std.proofs.lemmas.List.{append_cancel_left}
 use Rattle.base.specs.Bit.{byte}
 use Rattle.base.specs.Pick.{pick}
 use Rattle.fifo.specs.declared.Fifo.{Fifo}
@@ -120,10 +120,6 @@ over_due l reason true true is waits other over = (waits, refl)
 over_due l reason true false is waits other over = absurd (false≢true over)
 over_due l reason false full is waits other over = absurd (false≢true (sym other ∙ over))
 
--- what stands behind the same is the same
-pub behind_same : {A : Type 0} (xs ys zs : List A) → xs ++ ys ≡ xs ++ zs → ys ≡ zs
-behind_same xs ys zs alike = sym (drop-append_seam xs ys) ∙ ap (drop (length xs)) alike ∙ drop-append_seam xs zs
-
 -- ---- the step
 
 module _ (d : Device) (r : Records) (s : Step) (before : Holds d r) where
@@ -160,11 +156,11 @@ module _ (d : Device) (r : Records) (s : Step) (before : Holds d r) where
           eight = waiting_length q ∙ eight;
           eighth = latest_eighth q eight absent ∙ sym (newest_latest q numbers l h eight);
           stands =
-              behind_same (map message l.taken) (waiting q') (waiting (put_over q (message f)))
+              append_cancel_left (map message l.taken) (waiting q') (waiting (put_over q (message f)))
               (subst (λ (m : Ledger). map message m.taken ++ waiting q' ≡ map message (kept m)) grown behind.whole ∙ sym (over_whole q numbers l h eight f))
               ∙ over_waits q eight (message f) h.places ∙ ap (λ (g : Frame). set (waiting q) 7 (message g)) (sym came);
           carries =
-              behind_same (serials l.taken) (carried s.device) (set (carried d) 7 f.serial)
+              append_cancel_left (serials l.taken) (carried s.device) (set (carried d) 7 f.serial)
               (subst (λ (m : Ledger). serials m.taken ++ carried s.device ≡ serials (kept m)) grown behind.carried ∙ sym (over_carried q numbers l h eight f _ refl))
               ∙ ap (λ (g : Frame). set (carried d) 7 g.serial) (sym came);
           named = told;
@@ -234,6 +230,6 @@ module _ (d : Device) (r : Records) (s : Step) (before : Holds d r) where
 
   pub losses_told : (i : Input) → Holds s.device (noted by_the_rules r i s.given) → Due r i s.given → LossTold d r s (noted by_the_rules r i s.given)
   losses_told (spi bytes buffer) held given =
-      unsaid _ (ap values given) (pick_keeps (NoneReplaced r) (done s.given) (commanded r bytes) r (command_same r bytes) (inl refl))
+      unsaid _ (ap values given.2) (pick_keeps (NoneReplaced r) (done s.given) (commanded r bytes) r (command_same r bytes) (inl refl))
   losses_told (wire e payload) held given =
       event_told e payload (done s.given) (held_kept _ _ held).3.2 (rw given.0 given.1)

@@ -68,7 +68,7 @@ told s = length (values s.given)
 
 differ : (told (shipped fresh tick) ≡ 0) × (told (boasts fresh tick) ≡ 1)
 unfolding State.fresh Proper.proper Proper.registers_in_range Proper.sending_in_range Proper.acting_in_range State.mode_of Queue.empty Queue.in_range
-    Judged.impossible Judged.said Judged.gives_number Judged.no_number_left Judged.nothing Judged.brings Event.answered Event.answer Event.event Event.values_of Event.arrival_values
+    Judged.impossible Judged.said Judged.gives_number Judged.no_number_left Judged.brings Event.answered Event.answer Event.event Event.values_of Event.arrival_values
 differ = (refl, refl)
 
 pub not_the_code : IsTheCode boasts pins hits numbers explained fresh → ⊥

@@ -9,6 +9,7 @@ use borrow.Author.Tests.{ltb-true, ltb-false}
 use lib.Dec.{eqb, ltb}
 use lib.ListN.{length, get_or, drop, replicate, length-append, length-map, length-replicate, get_or-eq_default}
 use lib.Seq.{drop-append_seam}
+use Rattle.std.proofs.lemmas.List.{append_cancel_left, drop-map}
 use Rattle.base.specs.Bit.{byte}
 use Rattle.base.specs.Pick.{pick, among}
 use Rattle.base.specs.Tabulate.{tabulate}
@@ -16,6 +17,10 @@ use Rattle.base.proofs.Booleans.{and_left, and_right}
 use Rattle.base.proofs.Lists.{table_at, listed as one_by_one, tabulate_same}
 use Rattle.frame.proofs.Data.{zeros_behind}
 use Rattle.chip.specs.declared.Device.{Device}
+use Rattle.std.specs.Prelude.{Result, Ok, Err}
+use Rattle.refusal.specs.declared.Refusal.{Refusal}
+use Rattle.refusal.specs.declared.Refusal.TheVariants.{OutOfRange}
+use Rattle.refusal.specs.Refusal.{number_of}
 use Rattle.bus.specs.declared.types.Numbers.{Numbers}
 use Rattle.bus.specs.Numbers.{waiting_number, waiting_numbers, numbers}
 use Rattle.promise.specs.Promises.{TheNumbersAreAnswered}
@@ -25,12 +30,10 @@ use Rattle.promise.specs.Frames.{Frame}
 use Rattle.promise.specs.Held.{Holds}
 use Rattle.promise.specs.Ledger.{Ledger, kept, oldest, takes}
 use Rattle.promise.specs.Noted.{noted, by_the_rules, deeds, commanded}
-use Rattle.promise.specs.Numbering.{serials, carried, listed, Rises, Rising, Distinct, reads_one, FirstTaken, nothing_told, untaken, in_eight, Listed}
+use Rattle.promise.specs.Numbering.{serials, carried, listed, Rises, Rising, Distinct, reads_one, FirstTaken, untaken, in_eight, Listed}
 use Rattle.promise.specs.Records.{Records, with_ledger}
-use Rattle.promise.proofs.Boxes.{map_drop}
 use Rattle.promise.proofs.Choices.{pick_under}
 use Rattle.promise.proofs.Held.{held_in, held_kept}
-use Rattle.promise.proofs.Losses.{behind_same}
 use Rattle.promise.proofs.Queues.{length_tabulate, left_waits}
 use Rattle.promise.proofs.Ranges.{proper_same, count_below}
 use Rattle.promise.proofs.Rises.{rises_behind, rises_standing, rises_apart}
@@ -39,13 +42,17 @@ use Rattle.promise.proofs.Rises.{rises_behind, rises_standing, rises_apart}
 
 -- what is told of a device that is in range
 abbrev told : Device → Numbers
-told d = record { number = 0; last = d.serials.last; temp = d.serials.temp; count = d.rx.count; waiting = waiting_numbers d }
+told d = record { last = d.serials.last; temp = d.serials.temp; count = d.rx.count; waiting = waiting_numbers d }
+
+-- by whether one is
+abbrev by_range : Device → Bool → Result Numbers Refusal
+by_range d t = pick t (Ok (told d)) (Err OutOfRange)
 
 pub told_of_any : TheNumbersAreAnswered
 unfolding numbers
 told_of_any d = (
-  λ fits. ap (λ (t : Bool). (pick t (told d) (nothing_told 1)).number) (proper_same d ∙ fits),
-  λ wrong. ap (λ (t : Bool). pick t (told d) (nothing_told 1)) (proper_same d ∙ wrong),
+  λ fits. ap (λ (t : Bool). number_of (by_range d t)) (proper_same d ∙ fits),
+  λ wrong. ap (by_range d) (proper_same d ∙ wrong),
 )
 
 -- ---- eight places, of which the first are taken
@@ -86,7 +93,7 @@ module _ (d : Device) (r : Records) (h : Holds d r) where
   carried_untaken =
       sym (drop-append_seam (serials l.taken) (carried d))
       ∙ ap (drop (length (serials l.taken))) h.carries.0
-      ∙ rw (length-map l.taken (λ (f : Frame). f.serial)) (sym (map_drop (λ (f : Frame). f.serial) (length l.taken) (kept l)))
+      ∙ rw (length-map l.taken (λ (f : Frame). f.serial)) (drop-map (λ (f : Frame). f.serial) (length l.taken) (kept l))
 
   few : d.rx.count ≤ 8
   few = count_below d.rx (held_in d r h).0
@@ -99,8 +106,8 @@ module _ (d : Device) (r : Records) (h : Holds d r) where
   unfolding numbers
   listed_in =
       let waits = sym (left_waits d.rx d.serials.places l (held_kept d r h).3.2) in
-      ap (λ (t : Bool). pick t (told d) (nothing_told 1)) (proper_same d ∙ h.fits)
-      ∙ (λ i. record { number = 0; last = h.last i; temp = h.carries.1 i; count = waits i; waiting = waiting_same i })
+      ap (by_range d) (proper_same d ∙ h.fits)
+      ∙ (λ i. Ok (record { last = h.last i; temp = h.carries.1 i; count = waits i; waiting = waiting_same i }))
 
 -- ---- a read takes the first
 
@@ -129,7 +136,7 @@ takes_first d r s i before after reads =
     subst (λ (m : Records). serials m.ledger.taken ++ carried s.device ≡ serials (kept m.ledger)) is after.carries.0 in
     record {
       first =
-          behind_same (serials l.taken) (carried d) ((oldest l).serial ∷ carried s.device)
+          append_cancel_left (serials l.taken) (carried d) ((oldest l).serial ∷ carried s.device)
           (before.carries.0 ∙ sym then ∙ rw map-append (append_assoc (serials l.taken) ((oldest l).serial ∷ []) (carried s.device)));
       taken = ap (λ (m : Records). m.ledger.taken) is;
     }

@@ -9,6 +9,7 @@ use borrow.Author.Tests.{lt-ltb, le-leb, leb-true, eq-eqb}
 use lib.Dec.{leb, lit<}
 use lib.ListN.{length, take, drop, replicate, length-append, length-replicate, length-drop}
 use lib.Seq.{length-take-le}
+use Rattle.std.specs.Prelude.{unwrap_or}
 use Rattle.base.specs.Bit.{byte}
 use Rattle.base.specs.Pick.{pick, flag}
 use Rattle.base.specs.Tabulate.{tabulate}
@@ -21,7 +22,7 @@ use Rattle.frame.specs.Tables.{id_bits, id_as_read}
 use Rattle.frame.proofs.Data.{data_bytes_le}
 use Rattle.frame.proofs.Parts.{code_fits}
 use Rattle.to_send.specs.declared.ToSend.{ToSend}
-use Rattle.to_send.specs.ToSend.{standard_header, extended_header, header_to_send, right_length, message_of, stored}
+use Rattle.to_send.specs.ToSend.{standard_header, extended_header, header_to_send, right_length, message_of, no_message as unsent, stored}
 use Rattle.to_send.proofs.StoredBack.{stored_header, stored_data}
 use Rattle.promise.specs.Frames.{data_count, data_byte}
 use Rattle.promise.specs.Own.{Own, no_message, marks_extended, data_from, standard_written, extended_written, header_written, message_fits, message_in, own_message, Sendable}
@@ -166,7 +167,7 @@ module _ (s : List ℕ) where
           data_again g raw,
         )
 
-    pub stored_own : stored (message_of s).message ≡ (own_message (message_in s)).bytes
+    pub stored_own : stored (unwrap_or (message_of s) unsent) ≡ (own_message (message_in s)).bytes
     unfolding message_of
     stored_own =
         rw (fits, own_stored (message_in s) written_sendable, eight_is, header_reduced s) (stored_reduced (byte s 1) h (data_of h raw))

@@ -1,19 +1,21 @@
 -- The place of a filter that doesn't match is the first: what the device finds by the numbers of places, said by byte
 -- and bit. Assumes nothing.
-use mathlib.Core.Path.{◌≡◌, refl, sym, ◌∙◌, ap, subst}
-use mathlib.Core.Bool.{Bool, true, false, not, ◌&&◌, ◌||◌, false≢true}
+use mathlib.Core.Path.{◌≡◌, refl, sym, ◌∙◌, ap}
+use mathlib.Core.Bool.{Bool, true, false, not, ◌&&◌, false≢true}
 use mathlib.Core.List.{List, [], ◌∷◌}
-use mathlib.Core.Logic.{◌⊎◌, inl, inr, ⊎_elim}
+use mathlib.Core.Logic.{⊎_elim}
 use Prim.Native.Nat.{ℕ, zero, suc, pred, ◌+◌, ◌*◌, ◌-◌, ◌/◌, ◌%◌, ◌<◌, ◌≤◌}
 use native.Mathlib.Omega.{arith}
 use borrow.Author.Tests.{ne_eqb, lt-ltb, eqb-true, eqb-false, ltb-true, not-true, not-false}
 use lib.Dec.{eqb, ltb}
+use Rattle.std.specs.Prelude.{Some, None, is_none}
+use Rattle.std.proofs.lemmas.Bool.{or_cases}
 use Rattle.base.specs.Bit.{bit, byte, is_set}
 use Rattle.base.specs.Pick.{pick}
 use Rattle.base.proofs.Booleans.{pick_under, and_left, and_right}
 use Rattle.filter.specs.Match.{bit_at_place, uncounted, counted_of, matches}
-use Rattle.filter.specs.First.{differs_at, first_difference}
-use Rattle.filter.proofs.First.{first_says, none_before, first_within, matches_first}
+use Rattle.filter.specs.First.{differs_at, first_from, first_difference}
+use Rattle.filter.proofs.First.{first_says, none_before, matches_first}
 use Rattle.why.specs.declared.Place.{Place}
 use Rattle.why.specs.Why.{first_place}
 use Rattle.promise.specs.Commands.{one_of}
@@ -46,10 +48,6 @@ there k bytes =
 -- of two, the second, where they are not both
 other : (a b : Bool) → a ≡ true → (a && b) ≡ false → b ≡ false
 other a b is none = sym (ap (λ (t : Bool). t && b) is) ∙ none
-
-one-of : (a b : Bool) → (a || b) ≡ true → (a ≡ true) ⊎ (b ≡ true)
-one-of true b e = inl refl
-one-of false b e = inr e
 
 -- ---- which bits are named
 
@@ -142,28 +140,30 @@ counted_there : (mask : List ℕ) (k : ℕ) (t : Bool) → eqb k uncounted ≡ t
 counted_there mask k true is some = absurd (some refl)
 counted_there mask k false is some = (eqb-false k 31 is, omega (arith, some))
 
+-- a place that is found is one of the first n
+found_below : (k n : ℕ) (t : Bool) → ltb k n ≡ t → is_none (pick t (Some k) None) ≡ false → k < n
+found_below k n true below found = ltb-true k n below
+found_below k n false past found = absurd (false≢true (sym found))
+
 module _ (frame filter mask : List ℕ) (misses : matches frame filter mask ≡ false) where
   abbrev says : ℕ → Bool
   says = differs_at (bit_at_place frame) (bit_at_place filter) (counted_of mask)
 
   abbrev k : ℕ
-  k = first_difference frame filter mask
+  k = first_from 48 0 says
 
   is_one : k < 48
   unfolding first_difference
-  is_one =
-      let other : k ≡ 48 → ⊥ = eqb-false k 48 (sym (matches_first frame filter mask) ∙ misses) in
-      omega (arith, first_within says 48 0, other)
+  is_one = found_below k 48 (ltb k 48) refl (sym (matches_first frame filter mask) ∙ misses)
 
   differs : says k ≡ true
-  unfolding first_difference
   differs = first_says says 48 0 is_one
 
   abbrev placed : Place
   placed = record { byte = k / 8 + 1; bit = 7 - k % 8; wanted = bit_at_place filter k; came = bit_at_place frame k }
 
-  here : first_place frame filter mask ≡ placed
-  unfolding first_place
+  here : first_place frame filter mask ≡ Some placed
+  unfolding first_place first_difference
   here = rw (lt-ltb k 48 is_one)
 
   mask_there : (k ≡ 31 → ⊥) × (bit_at_place mask k ≡ 1)
@@ -188,7 +188,6 @@ module _ (frame filter mask : List ℕ) (misses : matches frame filter mask ≡ 
         (at_number b i n.from n.high mask ∙ eqb-true (bit i (byte mask b)) 1 set)
 
     same_there : eqb (bit_at_place frame j) (bit_at_place filter j) ≡ true
-    unfolding first_difference
     same_there =
         not-false (eqb (bit_at_place frame j) (bit_at_place filter j))
         (other (not (eqb (counted_of mask j) 0)) (not (eqb (bit_at_place frame j) (bit_at_place filter j)))
@@ -214,7 +213,7 @@ module _ (frame filter mask : List ℕ) (misses : matches frame filter mask ≡ 
         eqb-true b (k / 8 + 1) (and_left (eqb b (k / 8 + 1)) (ltb (7 - k % 8) i) bits),
         ltb-true (7 - k % 8) i (and_right (eqb b (k / 8 + 1)) (ltb (7 - k % 8) i) bits),
       ))
-      (one-of (ltb b (k / 8 + 1)) (eqb b (k / 8 + 1) && ltb (7 - k % 8) i) e)
+      (or_cases (ltb b (k / 8 + 1)) (eqb b (k / 8 + 1) && ltb (7 - k % 8) i) e)
 
   placed_first : IsFirst frame filter mask placed
   placed_first = record {
@@ -227,5 +226,5 @@ module _ (frame filter mask : List ℕ) (misses : matches frame filter mask ≡ 
         alike b i n (and_right (named b i) (is_set i (byte mask b)) c) (is_earlier b i n earlier);
   }
 
-  pub is_first : IsFirst frame filter mask (first_place frame filter mask)
-  is_first = subst (λ (p : Place). IsFirst frame filter mask p) (sym here) placed_first
+  pub is_first : (p : Place) × (first_place frame filter mask ≡ Some p) × IsFirst frame filter mask p
+  is_first = (placed, here, placed_first)

@@ -17,9 +17,9 @@ use Rattle.promise.proofs.EventsFit.{event_in}
 
 pub stays : (d : Device) (i : Input) → InRange d → InRange (step d i).device
 stays d (spi bytes buffer) h =
-    by_transfer (λ s. InRange s.device) d bytes buffer (λ n e wrong. h) (λ r e at. does_in d h r.verb r.index bytes)
+    by_transfer (λ s. InRange s.device) d bytes buffer (λ refusal e. h) (λ r e at. does_in d h r.verb r.index bytes)
 stays d (wire e payload) h =
-    by_event (λ s. InRange s.device) d e payload (λ n wrong. h) (λ can left. event_in d h e payload can)
+    by_event (λ s. InRange s.device) d e payload (λ refusal. h) (λ can left. event_in d h e payload can)
 
 pub fresh_in : InRange fresh
 unfolding fresh mode_of

@@ -9,6 +9,7 @@ use borrow.Author.Tests.{leb-true, leb-false, lt-leb, ne_eqb}
 use lib.Dec.{leb}
 use lib.ListN.{length, take, get_or, set, replicate, length-append, length-take, length-replicate, length-set, length-map, get_or-map}
 use lib.Seq.{get_or-append_seam, get_or-append-add}
+use Rattle.std.proofs.lemmas.List.{map-set}
 use Rattle.base.specs.Tabulate.{tabulate}
 use Rattle.fifo.specs.declared.Fifo.{Fifo}
 use Rattle.fifo.specs.declared.Message.{Message}
@@ -24,7 +25,6 @@ use Rattle.promise.specs.Ledger.{Accepted, Ledger, empty_ledger, frames, kept, l
 use Rattle.promise.specs.Held.{Each}
 use Rattle.promise.specs.Numbering.{serials}
 use Rattle.promise.proofs.Choices.{pick_under}
-use Rattle.promise.proofs.Banks.{map_set}
 use Rattle.promise.proofs.Each.{each_more, each_at}
 use Rattle.promise.proofs.Ledgers.{counted_once, last_stands, kept_more, kept_over}
 
@@ -118,7 +118,7 @@ module _ {A : Type 0} (of : Frame → A) (z : A) (xs : List A) (first count : �
 
     over_is : (f : Frame) (ys : List A) → ys ≡ set (ring xs z first count) 7 (of f) → map of l.taken ++ ys ≡ map of (kept (accepts l f true))
     over_is f ys exchanged =
-        rw (exchanged, kept_over l.accepted f before long_is, map_set of (kept l) before f, ← whole, ← length-map l.taken of)
+        rw (exchanged, kept_over l.accepted f before long_is, map-set of (kept l) before f, ← whole, ← length-map l.taken of)
         (sym (set_behind (map of l.taken) (ring xs z first count) 7 (of f)))
 
   -- one finds room

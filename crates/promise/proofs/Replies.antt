@@ -9,6 +9,7 @@ use borrow.Author.Tests.{le-leb, leb-true, eqb-false}
 use lib.Dec.{eqb}
 use lib.ListN.{length, get_or, take, drop, length-append, length-drop, length-replicate, drop_of_length-le, get_or-map}
 use lib.Seq.{get_or-take, get_or-drop, length-take-le, take_at, drop-drop}
+use Rattle.std.specs.Prelude.{Some}
 use Rattle.base.specs.Pick.{among}
 use Rattle.base.specs.Tabulate.{tabulate}
 use Rattle.base.proofs.Lists.{listed, tabulate_same, drop_replicate}
@@ -20,7 +21,6 @@ use Rattle.chip.specs.declared.Pattern.{Pattern}
 use Rattle.chip.specs.State.{absent, enabled}
 use Rattle.levels.specs.Levels.{rxerrp, txerrp, errw, errp, level_bits, tec_shown, groups_shown}
 use Rattle.drawn.specs.Drawn.{statf as statf_of, err as err_of, tstat as tstat_of, messtat as messtat_of}
-use Rattle.commands.specs.declared.Found.TheVariants.{At}
 use Rattle.commands.specs.declared.Row.{Row}
 use Rattle.commands.specs.Table.{rows, lookup}
 use Rattle.refused.specs.Refused.{reads_message, finds_none}
@@ -208,7 +208,7 @@ module _ (d : Device) (r : Records) (range : InRange d) (h : Kept d r) where
       and none and none and none and none and none and none and none and none
       and tt
 
-pub command_shows : (d : Device) (r : Records) → InRange d → Kept d r → (c : ℕ) (row : Row) → lookup rows c ≡ At row
+pub command_shows : (d : Device) (r : Records) → InRange d → Kept d r → (c : ℕ) (row : Row) → lookup rows c ≡ Some row
     → finds_none d.rx.count d.history.count row.verb ≡ false → take row.out (shows d row.verb row.index) ≡ shown r c
 unfolding shown
 command_shows d r range h c row at = at_row (Shows d r range h) rows c row at (showing d r range h)

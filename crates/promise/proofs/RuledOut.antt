@@ -12,12 +12,15 @@ use Rattle.fifo.specs.declared.Message.{Message}
 use Rattle.fifo.specs.Queue.{waiting}
 use Rattle.frame.specs.Received.{received}
 use Rattle.frame.specs.Tables.{id_bits, id_as_read}
+use Rattle.std.specs.Prelude.{Option, Some, None, Result, Ok, Err, is_some}
 use Rattle.base.specs.Bit.{bit, byte}
 use Rattle.base.specs.Pick.{pick, flag}
 use Rattle.base.proofs.Booleans.{and_left, and_right}
 use Rattle.frame.specs.declared.Header.{Header}
 use Rattle.receive.specs.declared.Arrival.TheVariants.{A4}
-use Rattle.judged.specs.declared.Answer.TheVariants.{Arrived}
+use Rattle.refusal.specs.declared.Refusal.{Refusal}
+use Rattle.refusal.specs.declared.Refusal.TheVariants.{OutOfRange, Impossible}
+use Rattle.refusal.specs.Refusal.{number_of}
 use Rattle.events.specs.declared.Event.TheVariants.{GoodFrame}
 use Rattle.why.specs.declared.Place.{Place}
 use Rattle.why.specs.declared.Why.{Why}
@@ -28,9 +31,9 @@ use Rattle.bus.specs.Numbers.{numbers as numbers_of}
 use Rattle.bus.specs.Pins.{pins}
 use Rattle.chip.specs.declared.Device.{Device}
 use Rattle.chip.specs.State.{fresh}
-use Rattle.promise.specs.Sequence.{Input, spi, wire, Given, replied, answered, Step, shipped, number, values, run}
+use Rattle.promise.specs.Sequence.{Input, spi, wire, Given, Step, shipped, number, values, run}
 use Rattle.promise.specs.Frames.{Frame, blank, message, identifier_read}
-use Rattle.promise.specs.Numbers.{Fits, Answered, First, Refused, Untouched, number_given}
+use Rattle.promise.specs.Numbers.{Answered, First, Refused, Untouched, number_given}
 use Rattle.promise.specs.Outbox.{Running, none, first, alone}
 use Rattle.promise.specs.Due.{Due}
 use Rattle.promise.specs.Held.{Each, Runs, Settled, Counted, Timed, Seen, Raised, Pinned, Whole, AsArrived, AsWritten}
@@ -39,10 +42,11 @@ use Rattle.promise.specs.Arrivals.{over_latest}
 use Rattle.promise.specs.Ledger.{frames, oldest, newest}
 use Rattle.promise.specs.Losses.{says_over, NoneReplaced, LossTold}
 use Rattle.promise.specs.Noted.{noted, by_the_rules}
-use Rattle.promise.specs.Numbering.{carried, listed, LastGiven, Carries, Rises, Rising, Distinct, reads_one, FirstTaken, CountsOn, nothing_told, ToldOfAny, Listed}
+use Rattle.promise.specs.Numbering.{carried, listed, LastGiven, Carries, Rises, Rising, Distinct, reads_one, FirstTaken, CountsOn, ToldOfAny, Listed}
 use Rattle.promise.specs.Questions.{InEveryDevice, Told}
+use Rattle.promise.specs.Frames.{can_arrive}
 use Rattle.promise.specs.Ranges.{device_in_range}
-use Rattle.promise.specs.Explanations.{TheDevices, counts_at, before, IsFirst, no_place, EachHasOne, Pointed}
+use Rattle.promise.specs.Explanations.{TheDevices, counts_at, before, IsFirst, EachHasOne, Pointed}
 use Rattle.promise.specs.Filters.{compared}
 use Rattle.promise.specs.Settings.{patterns}
 use Rattle.promise.specs.Records.{Records}
@@ -52,7 +56,7 @@ use Rattle.promise.proofs.Cases.{misjudged, misanswered, changing, mistold, misa
 use Rattle.promise.proofs.Cases.{uncounted, restarted, uncarried, unordered, repeated, untaken, mislisted, misnumbered}
 use Rattle.promise.proofs.Explanations.{is-a4, a4_is}
 use Rattle.promise.proofs.Queues.{Shown}
-use Rattle.promise.proofs.Sides.{alike, alike_self, counted, lost_since, shown_hits, all_bytes, counts, setting_bytes, levels, numbers, numbers_due, refusal, buffered, running_bytes, pointed_at, waits_and_runs, rises, told_in, sides, differ}
+use Rattle.promise.proofs.Sides.{alike, alike_self, counted, lost_since, set_in, shown_hits, all_bytes, counts, setting_bytes, levels, numbers, numbers_due, buffered, running_bytes, pointed_at, waits_and_runs, rises, told_in, sides, differ}
 
 -- the promise that a case breaks
 abbrev pub Promise : Case → Type 0
@@ -88,7 +92,7 @@ Promise (astray w d r h i) = Onward w pins hits numbers_of
 -- ---- each promise makes its two sides equal
 
 given_due : (r : Records) (i : Input) (given : Given) → Due r i given → numbers i given ≡ numbers_due r i
-given_due r (spi bytes buffer) given is = ap (numbers (spi bytes buffer)) is
+given_due r (spi bytes buffer) given is = rw (is.2, is.1)
 given_due r (wire e payload) given is = rw (is.0, is.1)
 
 runs_bytes : (sending : ℕ) (buffer : Message) (r : Running) → Runs sending buffer r → buffered buffer r ≡ running_bytes r
@@ -113,17 +117,17 @@ loss_sides : (d : Device) (r : Records) (s : Step) (after : Records) (t : Bool) 
 loss_sides d r s after true over told = rw ((told.0 over).eight, (told.0 over).named, (told.0 over).stands, (told.0 over).carries)
 loss_sides d r s after false other told = ap (λ n. n ∷ []) (none_lost r after (told.1 other))
 
--- an answer is a refusal exactly if its number is not 0
-fits_refusal : (i : Input) (given : Given) → Fits i given → refusal given ≡ flag (not (eqb (number given) 0))
-fits_refusal (spi bytes buffer) (replied n after) fits = refl
-fits_refusal (spi bytes buffer) (answered a) fits = absurd fits
-fits_refusal (wire e payload) (replied n after) fits = refl
-fits_refusal (wire e payload) (answered a) fits = ap flag fits
+-- a question, by whether the device is in range and the frame can be
+by_question : (p can : Bool) (set : ℕ) (given : Result ℕ Refusal) → given ≡ pick p (pick can (Ok set) (Err Impossible)) (Err OutOfRange)
+    → shown_hits given ≡ shown_hits (pick p (pick can (Ok (set_in given)) (Err Impossible)) (Err OutOfRange))
+by_question true true set given is = rw is
+by_question true false set given is = rw is
+by_question false can set given is = rw is
 
 -- what a refusal leaves is the same device
 untouched_device : (d : Device) (i : Input) (s : Step) → Untouched d i s → s.device ≡ d
-untouched_device d (spi bytes buffer) s is = ap (λ (s : Step). s.device) is
-untouched_device d (wire e payload) s is = ap (λ (s : Step). s.device) is
+untouched_device d (spi bytes buffer) s is = ap (λ (s : Step). s.device) is.1
+untouched_device d (wire e payload) s is = ap (λ (s : Step). s.device) is.1
 
 left_device : (t : Bool) (d : Device) (i : Input) (s : Step) → eqb (number s.given) 0 ≡ t → ((number s.given ≡ 0 → ⊥) → Untouched d i s)
     → pick t d s.device ≡ d
@@ -142,8 +146,8 @@ apart true false same never = refl
 apart false within same never = refl
 
 -- what is told of a device, by whether it is in range
-by_range : (t : Bool) (told : NumbersGiven) → (t ≡ true → told.number ≡ 0) × (t ≡ false → told ≡ nothing_told 1)
-    → pick t (told.number ∷ []) (told_in told) ≡ pick t (0 ∷ []) (told_in (nothing_told 1))
+by_range : (t : Bool) (told : Result NumbersGiven Refusal) → (t ≡ true → number_of told ≡ 0) × (t ≡ false → told ≡ Err OutOfRange)
+    → pick t (number_of told ∷ []) (told_in told) ≡ pick t (0 ∷ []) (told_in (Err OutOfRange))
 by_range true told is = ap (λ n. n ∷ []) (is.0 refl)
 by_range false told is = ap told_in (is.1 refl)
 
@@ -158,7 +162,7 @@ implied : (e : Bool) (x y : ℕ) → (e ≡ true → x ≡ y) → (not e || eqb 
 implied true x y alike = eq-eqb x y (alike refl)
 implied false x y alike = refl
 
-first_sides : (frame filter mask : List ℕ) (at : ℕ × ℕ) (p : Place) → IsFirst frame filter mask p → pointed_at frame filter mask at p ≡ 1 ∷ 0 ∷ 1 ∷ []
+first_sides : (frame filter mask : List ℕ) (at : ℕ × ℕ) (p : Place) → IsFirst frame filter mask p → pointed_at frame filter mask at (Some p) ≡ 1 ∷ 0 ∷ 1 ∷ []
 first_sides frame filter mask at p f =
     rw (
       f.counts,
@@ -169,13 +173,15 @@ first_sides frame filter mask at p f =
 
 module _ (d : Device) (h : Header) (payload : List ℕ) (at : ℕ × ℕ) (w : Why) where
   abbrev pointed : List ℕ
-  pointed = pointed_at (compared h payload) (get_or (patterns d.filters) 0 []) (get_or (patterns d.masks) 0 []) at (get_or w.places 0 no_place)
+  pointed = pointed_at (compared h payload) (get_or (patterns d.filters) 0 []) (get_or (patterns d.masks) 0 []) at (get_or w.places 0 None)
 
   by_a4 : (t : Bool) → no_filter w.answer ≡ t
-      → (w.answer ≡ Arrived A4 → EachHasOne d h payload w.places) × ((w.answer ≡ Arrived A4 → ⊥) → w.places ≡ replicate 8 no_place)
-      → pick t pointed (map (λ (p : Place). p.byte) w.places) ≡ pick t (1 ∷ 0 ∷ 1 ∷ []) (replicate 8 0)
-  by_a4 true e holds = first_sides _ _ _ at _ ((holds.0 (is-a4 w.answer e)).1 0 (omega arith))
-  by_a4 false e holds = ap (map (λ (p : Place). p.byte)) (holds.1 (λ a4. false≢true (sym e ∙ a4_is w.answer a4)))
+      → (w.answer ≡ Ok (Some A4) → EachHasOne d h payload w.places) × ((w.answer ≡ Ok (Some A4) → ⊥) → w.places ≡ replicate 8 None)
+      → pick t pointed (map (λ (p : Option Place). flag (is_some p)) w.places) ≡ pick t (1 ∷ 0 ∷ 1 ∷ []) (replicate 8 0)
+  by_a4 true e holds =
+      let has = (holds.0 (is-a4 w.answer e)).1 0 (omega arith) in
+      rw has.1 (first_sides _ _ _ at has.0 has.2)
+  by_a4 false e holds = ap (map (λ (p : Option Place). flag (is_some p))) (holds.1 (λ a4. false≢true (sym e ∙ a4_is w.answer a4)))
 
 equal : (c : Case) → Promise c → (sides c).0 ≡ (sides c).1
 equal (lost w is) holds = ap all_bytes (holds is)
@@ -197,10 +203,12 @@ equal (untold w is i) holds =
 equal (misshown look is) holds = ap levels (holds is)
 equal (unlike_itself w is) holds = first_shown (frames (recorded w is).ledger) (holds is).1
 equal (misjudged w d i) holds = ap (λ n. n ∷ []) (holds d i)
-equal (misanswered w d i) holds = ap (λ n. n ∷ []) (fits_refusal i (w d i).given (holds d i).1)
+equal (misanswered w d i) holds = ap (λ t. flag t ∷ []) (holds d i).2
 equal (changing w d i) holds = ap waits_and_runs (left_device (eqb (number_given w d i) 0) d i (w d i) refl (holds d i))
 equal (mistold ask is h count payload) holds = ap shown_hits (holds is h count payload)
-equal (misasked ask d h count payload) holds = ap shown_hits (holds d h count payload)
+equal (misasked ask d h count payload) holds =
+    let is = holds d h count payload in
+    by_question (device_in_range d) (can_arrive h count) is.0 (ask d h count payload) is.1
 equal (misled explain d h acknowledged count payload) holds =
     ap (numbers (wire (GoodFrame h acknowledged count) payload)) (holds d h acknowledged count payload)
 equal (mispointed explain d h acknowledged count payload at) holds =

@@ -6,6 +6,7 @@ use Prim.Native.Nat.{ℕ, ◌+◌, ◌-◌, ◌%◌}
 use borrow.Author.Tests.{eq-eqb}
 use lib.Dec.{eqb, leb, ltb}
 use lib.ListN.{length, replicate, get_or, set}
+use Rattle.std.specs.Prelude.{Option, Some, None, Result, Ok, Err, is_some}
 use Rattle.base.specs.Bit.{bit, byte}
 use Rattle.base.specs.Pick.{pick, flag}
 use Rattle.counters.specs.declared.Counters.{Counters}
@@ -43,6 +44,9 @@ use Rattle.why.specs.declared.Why.{Why as Explained}
 use Rattle.why.specs.Why
 use Rattle.events.specs.declared.Event.TheVariants.{GoodFrame}
 use Rattle.commands.specs.Table
+use Rattle.refusal.specs.declared.Refusal.{Refusal}
+use Rattle.refusal.specs.declared.Refusal.TheVariants.{OutOfRange}
+use Rattle.refusal.specs.Refusal.{number_of, number as number_for}
 use Rattle.refused.specs.Refused
 use Rattle.shown.specs.Shown
 use Rattle.done.specs.Done
@@ -55,7 +59,7 @@ use Rattle.promise.specs.Ranges
 use Rattle.promise.specs.Flags.{together}
 use Rattle.promise.specs.Frames.{blank, message, identifier_read}
 use Rattle.promise.specs.Numbers
-use Rattle.promise.specs.Numbers.{situation, number_due, refuses, number_given}
+use Rattle.promise.specs.Numbers.{situation, number_due, is_refusal, number_given}
 use Rattle.promise.specs.Outbox.{Running, none, first, alone}
 use Rattle.promise.specs.Own.{own_message}
 use Rattle.promise.specs.Due.{situation_of, filled}
@@ -65,7 +69,7 @@ use Rattle.promise.specs.Arrivals.{over_latest, values_due}
 use Rattle.promise.specs.Ledger
 use Rattle.promise.specs.Ledger.{frames, kept, replaced, oldest, newest}
 use Rattle.promise.specs.Numbering
-use Rattle.promise.specs.Numbering.{serials, carried, listed, reads_one, gives_one, nothing_told, in_eight}
+use Rattle.promise.specs.Numbering.{serials, carried, listed, reads_one, gives_one, in_eight}
 use Rattle.promise.specs.Losses.{says_over}
 use Rattle.promise.specs.Noted.{noted, records_by, by_the_rules, by_the_answers}
 use Rattle.promise.specs.Records.{Records}
@@ -73,12 +77,11 @@ use Rattle.promise.specs.Registers
 use Rattle.promise.specs.Registers.{shown, pins_shown}
 use Rattle.promise.specs.Settings
 use Rattle.promise.specs.Settings.{Settings, settings_of, patterns}
-use Rattle.bus.specs.declared.types.Hits.{Hits as HitsGiven}
 use Rattle.bus.specs.declared.types.Numbers.{Numbers as NumbersGiven}
 use Rattle.promise.specs.Arrivals.{matching}
-use Rattle.promise.specs.Questions.{refused, unless_impossible}
+use Rattle.promise.specs.Questions.{unless_impossible}
 use Rattle.promise.proofs.Cases.{Case, lost, undue, unsettled, miscounted, mistimed, unseen, unraised, unwritten, unlike, untold, misshown, unlike_itself}
-use Rattle.promise.specs.Explanations.{counts_at, before, no_place}
+use Rattle.promise.specs.Explanations.{counts_at, before}
 use Rattle.promise.proofs.Cases.{misjudged, misanswered, changing, mistold, misasked, misled, mispointed, astray, cases}
 use Rattle.promise.proofs.Cases.{uncounted, restarted, uncarried, unordered, repeated, untaken, mislisted, misnumbered}
 
@@ -116,7 +119,7 @@ levels p = flag p.int ∷ flag p.stat ∷ flag p.gp1 ∷ flag p.gp2 ∷ []
 
 -- what a transfer leaves in the lent buffer, and what an event says
 abbrev pub left : Given → List ℕ
-left (replied n buffer) = buffer
+left (replied answer buffer) = buffer
 left (answered a) = []
 
 abbrev pub numbers : Input → Given → List ℕ
@@ -131,11 +134,6 @@ numbers_due r (wire e payload) =
     let n = number_due (situation_of r) (wire e payload) in
     n ∷ pick (eqb n 0) (values_due r e payload) []
 
--- whether an answer is a refusal
-abbrev pub refusal : Given → ℕ
-refusal (replied n buffer) = flag (not (eqb n 0))
-refusal (answered a) = flag (refuses a)
-
 -- the transmit buffer while a message runs, and that message
 abbrev pub buffered : Message → Running → List ℕ
 buffered buffer none = []
@@ -147,14 +145,19 @@ running_bytes none = []
 running_bytes (first m) = (own_message m).bytes
 running_bytes (alone m) = (own_message m).bytes
 
--- a question's number, and the set
-abbrev pub shown_hits : HitsGiven → List ℕ
-shown_hits given = given.number ∷ given.set ∷ []
+-- the set that a question is given, and its number with it
+abbrev pub set_in : Result ℕ Refusal → ℕ
+set_in (Ok set) = set
+set_in (Err refusal) = 0
 
--- of a place: whether it counts, whether filter and frame are alike there, and whether they are at another bit, if that
--- counts and comes before it
-abbrev pub pointed_at : List ℕ → List ℕ → List ℕ → ℕ × ℕ → Place → List ℕ
-pointed_at frame filter mask at p =
+abbrev pub shown_hits : Result ℕ Refusal → List ℕ
+shown_hits given = number_of given ∷ set_in given ∷ []
+
+-- of a place, if there is one: whether it counts, whether filter and frame are alike there, and whether they are at
+-- another bit, if that counts and comes before it
+abbrev pub pointed_at : List ℕ → List ℕ → List ℕ → ℕ × ℕ → Option Place → List ℕ
+pointed_at frame filter mask at None = []
+pointed_at frame filter mask at (Some p) =
     flag (counts_at mask p.byte p.bit) ∷
     flag (eqb p.wanted p.came) ∷
     flag (not (before at.0 at.1 p && counts_at mask at.0 at.1) || eqb (bit at.1 (byte frame at.0)) (bit at.1 (byte filter at.0))) ∷
@@ -181,8 +184,9 @@ abbrev pub same_at : List ℕ → ℕ → ℕ → Bool
 same_at ns i j = ltb i j && (ltb j (length ns) && eqb (get_or ns i 0) (get_or ns j 0))
 
 -- all that is told of the arrival numbers
-abbrev pub told_in : NumbersGiven → List ℕ
-told_in told = told.number ∷ told.last ∷ told.temp ∷ told.count ∷ told.waiting
+abbrev pub told_in : Result NumbersGiven Refusal → List ℕ
+told_in (Ok told) = 0 ∷ told.last ∷ told.temp ∷ told.count ∷ told.waiting
+told_in (Err refusal) = number_for refusal ∷ []
 
 -- what the device comes to, and what its promise says
 abbrev pub sides : Case → List ℕ × List ℕ
@@ -218,7 +222,7 @@ sides (unlike_itself w is) = (
   identifier_read (get_or (frames (recorded w is).ledger) 0 blank).header,
 )
 sides (misjudged w d i) = (number_given w d i ∷ [], number_due (situation d) i ∷ [])
-sides (misanswered w d i) = (refusal (w d i).given ∷ [], flag (not (eqb (number (w d i).given) 0)) ∷ [])
+sides (misanswered w d i) = (flag (is_refusal (w d i).given) ∷ [], flag (not (eqb (number_due (situation d) i) 0)) ∷ [])
 sides (changing w d i) = (waits_and_runs (pick (eqb (number_given w d i) 0) d (w d i).device), waits_and_runs d)
 sides (mistold ask is h count payload) = (
   shown_hits (ask (run shipped fresh is) h count payload),
@@ -226,7 +230,7 @@ sides (mistold ask is h count payload) = (
 )
 sides (misasked ask d h count payload) = (
   shown_hits (ask d h count payload),
-  shown_hits (pick (Ranges.device_in_range d) (unless_impossible h count (ask d h count payload).set) (refused 1)),
+  shown_hits (pick (Ranges.device_in_range d) (unless_impossible h count (set_in (ask d h count payload))) (Err OutOfRange)),
 )
 sides (misled explain d h acknowledged count payload) =
     let i : Input = wire (GoodFrame h acknowledged count) payload in
@@ -234,8 +238,8 @@ sides (misled explain d h acknowledged count payload) =
 sides (mispointed explain d h acknowledged count payload at) =
     let w : Explained = explain d h acknowledged count payload in (
       pick (Why.no_filter w.answer)
-          (pointed_at (Filters.compared h payload) (get_or (patterns d.filters) 0 []) (get_or (patterns d.masks) 0 []) at (get_or w.places 0 no_place))
-          (map (λ p. p.byte) w.places),
+          (pointed_at (Filters.compared h payload) (get_or (patterns d.filters) 0 []) (get_or (patterns d.masks) 0 []) at (get_or w.places 0 None))
+          (map (λ p. flag (is_some p)) w.places),
       pick (Why.no_filter w.answer) (1 ∷ 0 ∷ 1 ∷ []) (replicate 8 0),
     )
 sides (uncounted w is) = ((run w fresh is).serials.last ∷ [], (recorded w is).arrivals ∷ [])
@@ -255,14 +259,14 @@ sides (mislisted list is) =
       0 ∷ r.arrivals ∷ r.latest.serial ∷ Ledger.left r.ledger ∷ in_eight (serials (Numbering.untaken r.ledger)),
     )
 sides (misnumbered list d) = (
-  pick (Ranges.device_in_range d) ((list d).number ∷ []) (told_in (list d)),
-  pick (Ranges.device_in_range d) (0 ∷ []) (told_in (nothing_told 1)),
+  pick (Ranges.device_in_range d) (number_of (list d) ∷ []) (told_in (list d)),
+  pick (Ranges.device_in_range d) (0 ∷ []) (told_in (Err OutOfRange)),
 )
 sides (astray w d r holds i) = (numbers i (w d i).given, numbers_due r i)
 
 pub differ : map (λ c. alike (sides c).0 (sides c).1) cases ≡ replicate (length cases) false
 unfolding Transfer.transfer Transfer.reply_after Refused.length_fits Refused.sets_up Refused.outside_set_up Refused.finds_full Refused.reads_message
-    Refused.finds_none Refused.refusal Refused.row_judged Refused.verdict Proper.registers_in_range Proper.sending_in_range Proper.acting_in_range
+    Refused.finds_none Refused.row_judged Refused.verdict Proper.registers_in_range Proper.sending_in_range Proper.acting_in_range
     Proper.proper State.mode_of State.fresh State.enabled State.bank Queue.empty Queue.put Queue.place_over Queue.put_over Queue.latest Queue.take Queue.next Queue.in_range Table.rows
     ToSend.header_to_send ToSend.right_length ToSend.message_of ToSend.stored Done.pattern Done.registers_after Done.register_changed Done.message_taken
     Done.entry_taken Done.receive_cleared Done.time_reset Done.message_written Done.filter_written Done.mask_written Done.rec_written Done.tec_written
@@ -270,10 +274,10 @@ unfolding Transfer.transfer Transfer.reply_after Refused.length_fits Refused.set
     Receive.hits Receive.own_frame Receive.over_latest Receive.filters_and_room Receive.is_queued Receive.reaches_temporary Receive.next_serial Receive.serials_after Receive.queued_flag Receive.filter_flag Receive.queue_after
     Receive.arrived FilterHits.hits FilterHits.filhit Match.matches Length.data_length Length.data_bytes Length.possible Length.data_fits Length.data_of
     Ranges.device_in_range Filters.hits_of Hits.filhit_of Received.received Received.header_in Tables.id_bits Tables.id_to_send Tables.id_as_read Tables.compared Judged.quiet_mode Judged.no_errors Judged.runs
-    Judged.impossible_frame Judged.impossible Judged.takes_no_frames Judged.unacknowledged Judged.reason Judged.said Judged.gives_number Judged.no_number_left Judged.bus_frame Judged.nothing Judged.brings Changed.err_bit
+    Judged.impossible_frame Judged.impossible Judged.takes_no_frames Judged.unacknowledged Judged.reason Judged.said Judged.gives_number Judged.no_number_left Judged.bus_frame Judged.brings Changed.err_bit
     Changed.counted_frame Changed.heard Changed.taken Changed.counted_receive_error Changed.receive_error_met Changed.dominant_met
     Changed.counted_transmit_error Changed.transmit_error_met Changed.recessive_met Changed.ticked Changed.pin_set Changed.arrival Changed.after
-    Event.number_of Event.arrival_values Event.values_of Event.answered Event.answer Event.event BusHits.hits BusNumbers.waiting_number BusNumbers.waiting_numbers BusNumbers.numbers Why.first_place Why.places Why.is_a4 Why.no_filter Why.explained First.first_difference Rules.receive_error Rules.dominant_bit Rules.good_frame Rules.transmit_error
+    Event.arrival_values Event.values_of Event.answered Event.answer Event.event BusHits.hits BusNumbers.waiting_number BusNumbers.waiting_numbers BusNumbers.numbers Why.first_place Why.places Why.is_a4 Why.no_filter Why.explained First.first_difference Rules.receive_error Rules.dominant_bit Rules.good_frame Rules.transmit_error
     Rules.completed Rules.eleven_recessive Rules.test_rec Rules.test_tec Transmit.sends Transmit.can_begin Transmit.without_tx1m Transmit.ctrl1_begun
     Transmit.begun Transmit.stopped Transmit.aborted Transmit.left_alone Transmit.cleared Transmit.stamped Transmit.fifo_after
     Transmit.counted_completion Transmit.transmitted Shown.cut Shown.register Shown.shows

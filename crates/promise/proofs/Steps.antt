@@ -5,25 +5,25 @@ use mathlib.Core.List.{List, [], ◌∷◌, ◌++◌, foldl}
 use Prim.Native.Nat.{ℕ}
 use lib.Dec.{eqb}
 use lib.ListN.{length, take}
+use Rattle.std.specs.Prelude.{Option, Some, Result, Ok, Err}
 use Rattle.base.specs.Bit.{byte}
 use Rattle.base.specs.Pick.{pick}
 use Rattle.base.specs.Put.{put_of}
 use Rattle.chip.specs.declared.Device.{Device}
 use Rattle.chip.specs.Proper.{proper}
 use Rattle.events.specs.declared.Event.{Event}
-use Rattle.judged.specs.declared.Answer.{Answer}
-use Rattle.judged.specs.declared.Answer.TheVariants.{Refused as RefusedEvent}
 use Rattle.judged.specs.Judged.{impossible, said, no_number_left, brings}
 use Rattle.bus.specs.declared.types.Outcome.{Outcome}
+use Rattle.receive.specs.declared.Arrival.{Arrival}
 use Rattle.receive.specs.Receive.{hits}
-use Rattle.bus.specs.Event.{answered as answered_by, answer, outcome, event}
-use Rattle.commands.specs.declared.Found.{Found}
-use Rattle.commands.specs.declared.Found.TheVariants.{At, Nothing}
+use Rattle.bus.specs.Event.{Answer, answered as answered_by, answer, outcome, event}
 use Rattle.commands.specs.declared.Row.{Row}
 use Rattle.commands.specs.Table.{rows, lookup}
-use Rattle.refused.specs.declared.Verdict.{Verdict}
-use Rattle.refused.specs.declared.Verdict.TheVariants.{Refused, Accepted}
-use Rattle.refused.specs.Refused.{refusal, row_judged, verdict}
+use Rattle.refusal.specs.declared.Refusal.{Refusal}
+use Rattle.refusal.specs.declared.Refusal.TheVariants.{OutOfRange, NoCommand, WrongLength, ShortBuffer, OutsideSetUp}
+use Rattle.refusal.specs.declared.Refusal.TheVariants.{FindsFull, FindsNone, Impossible, NoNumberLeft}
+use Rattle.refusal.specs.Refusal.{number}
+use Rattle.refused.specs.Refused.{verdict}
 use Rattle.refused.proofs.Accepted.{accepted_found}
 use Rattle.shown.specs.Shown.{shows}
 use Rattle.done.specs.Done.{does}
@@ -48,98 +48,86 @@ pub noted_more : {A : Type 0} (note : A → Input → Given → A) (d : Device) 
 noted_more note d a [] i = refl
 noted_more note d a (j ∷ is) i = noted_more note (step d j).device (note a j (step d j).given) is i
 
+-- a refusal's number is not 0
+pub refusal_counts : (refusal : Refusal) → eqb (number refusal) 0 ≡ false
+refusal_counts OutOfRange = refl
+refusal_counts NoCommand = refl
+refusal_counts WrongLength = refl
+refusal_counts ShortBuffer = refl
+refusal_counts OutsideSetUp = refl
+refusal_counts FindsFull = refl
+refusal_counts FindsNone = refl
+refusal_counts Impossible = refl
+refusal_counts NoNumberLeft = refl
+
 -- ---- a transfer is refused, or done
 
-abbrev pub refused_transfer : Device → ℕ → List ℕ → Step
-refused_transfer d n buffer = record { device = d; given = replied n buffer }
+abbrev pub refused_transfer : Device → Refusal → List ℕ → Step
+refused_transfer d refusal buffer = record { device = d; given = replied (Err refusal) buffer }
 
 abbrev pub done_transfer : Device → Row → List ℕ → List ℕ → Step
 done_transfer d r bytes buffer = record {
   device = does d r.verb r.index bytes;
-  given = replied 0 (put_of (take r.out (shows d r.verb r.index)) buffer);
+  given = replied (Ok tt) (put_of (take r.out (shows d r.verb r.index)) buffer);
 }
 
-abbrev pub judged_transfer : Device → List ℕ → List ℕ → Verdict → Step
-judged_transfer d bytes buffer (Refused n) = refused_transfer d n buffer
-judged_transfer d bytes buffer (Accepted r) = done_transfer d r bytes buffer
+abbrev pub judged_transfer : Device → List ℕ → List ℕ → Result Row Refusal → Step
+judged_transfer d bytes buffer (Err refusal) = refused_transfer d refusal buffer
+judged_transfer d bytes buffer (Ok r) = done_transfer d r bytes buffer
 
--- a verdict's number is not 0
-abbrev pub Sound : Verdict → Type 0
-Sound (Refused n) = eqb n 0 ≡ false
-Sound (Accepted r) = Unit {0}
-
-sound_pick : (t : Bool) (n : ℕ) (r : Row) → eqb n 0 ≡ t → Sound (pick t (Accepted r) (Refused n))
-sound_pick true n r e = tt
-sound_pick false n r e = e
-
-row_sound : (d : Device) (f : Found) (bytes : List ℕ) (lent : ℕ) → Sound (row_judged d f bytes lent)
-unfolding row_judged
-row_sound d Nothing bytes lent = refl
-row_sound d (At r) bytes lent = sound_pick (eqb (refusal d r bytes lent) 0) (refusal d r bytes lent) r refl
-
-checks_sound : (p q : Bool) (v : Verdict) → Sound v → Sound (pick p (pick q (Refused 3) v) (Refused 1))
-checks_sound true true v s = refl
-checks_sound true false v s = s
-checks_sound false q v s = refl
-
-judged_sound : (d : Device) (bytes : List ℕ) (lent : ℕ) → Sound (verdict d bytes lent)
-unfolding verdict
-judged_sound d bytes lent =
-    checks_sound (proper d) (eqb (length bytes) 0) (row_judged d (lookup rows (byte bytes 1)) bytes lent)
-    (row_sound d (lookup rows (byte bytes 1)) bytes lent)
-
-same_step : (d : Device) (bytes buffer : List ℕ) (v : Verdict)
-    → record { device = (host_outcome d bytes v).device; given = replied (host_outcome d bytes v).number (reply d v buffer) }
+same_step : (d : Device) (bytes buffer : List ℕ) (v : Result Row Refusal)
+    → record { device = (host_outcome d bytes v).device; given = replied (host_outcome d bytes v).answer (reply d v buffer) }
     ≡ judged_transfer d bytes buffer v
-same_step d bytes buffer (Refused n) = refl
-same_step d bytes buffer (Accepted r) = refl
+same_step d bytes buffer (Err refusal) = refl
+same_step d bytes buffer (Ok r) = refl
 
 transfer_is : (d : Device) (bytes buffer : List ℕ) → step d (spi bytes buffer) ≡ judged_transfer d bytes buffer (verdict d bytes (length buffer))
 unfolding transfer reply_after
 transfer_is d bytes buffer = same_step d bytes buffer (verdict d bytes (length buffer))
 
 by_verdict : (P : Step → Type 0) (d : Device) (bytes buffer : List ℕ)
-    → ((n : ℕ) → step d (spi bytes buffer) ≡ refused_transfer d n buffer → eqb n 0 ≡ false → P (refused_transfer d n buffer))
-    → ((r : Row) → step d (spi bytes buffer) ≡ done_transfer d r bytes buffer → lookup rows (byte bytes 1) ≡ At r → P (done_transfer d r bytes buffer))
-    → (v : Verdict) → verdict d bytes (length buffer) ≡ v → Sound v → P (judged_transfer d bytes buffer v)
-by_verdict P d bytes buffer no_way way (Refused n) e s = no_way n (transfer_is d bytes buffer ∙ ap (judged_transfer d bytes buffer) e) s
-by_verdict P d bytes buffer no_way way (Accepted r) e s =
+    → ((refusal : Refusal) → step d (spi bytes buffer) ≡ refused_transfer d refusal buffer → P (refused_transfer d refusal buffer))
+    → ((r : Row) → step d (spi bytes buffer) ≡ done_transfer d r bytes buffer → lookup rows (byte bytes 1) ≡ Some r → P (done_transfer d r bytes buffer))
+    → (v : Result Row Refusal) → verdict d bytes (length buffer) ≡ v → P (judged_transfer d bytes buffer v)
+by_verdict P d bytes buffer no_way way (Err refusal) e = no_way refusal (transfer_is d bytes buffer ∙ ap (judged_transfer d bytes buffer) e)
+by_verdict P d bytes buffer no_way way (Ok r) e =
     way r (transfer_is d bytes buffer ∙ ap (judged_transfer d bytes buffer) e) (accepted_found d bytes (length buffer) r e)
 
 pub by_transfer : (P : Step → Type 0) (d : Device) (bytes buffer : List ℕ)
-    → ((n : ℕ) → step d (spi bytes buffer) ≡ refused_transfer d n buffer → eqb n 0 ≡ false → P (refused_transfer d n buffer))
-    → ((r : Row) → step d (spi bytes buffer) ≡ done_transfer d r bytes buffer → lookup rows (byte bytes 1) ≡ At r → P (done_transfer d r bytes buffer))
+    → ((refusal : Refusal) → step d (spi bytes buffer) ≡ refused_transfer d refusal buffer → P (refused_transfer d refusal buffer))
+    → ((r : Row) → step d (spi bytes buffer) ≡ done_transfer d r bytes buffer → lookup rows (byte bytes 1) ≡ Some r → P (done_transfer d r bytes buffer))
     → P (step d (spi bytes buffer))
 by_transfer P d bytes buffer no_way way =
-    rw (transfer_is d bytes buffer)
-    (by_verdict P d bytes buffer no_way way (verdict d bytes (length buffer)) refl (judged_sound d bytes (length buffer)))
+    rw (transfer_is d bytes buffer) (by_verdict P d bytes buffer no_way way (verdict d bytes (length buffer)) refl)
 
 -- ---- an event is refused, or done
 
-abbrev pub refused_event : Device → ℕ → Step
-refused_event d n = record { device = d; given = answered (RefusedEvent n) }
+abbrev pub refused_event : Device → Refusal → Step
+refused_event d refusal = record { device = d; given = answered (Err refusal) }
 
 -- by what it brings, and the filters that this hits
-abbrev pub said_of : Device → Event → List ℕ → Answer
+abbrev pub said_of : Device → Event → List ℕ → Option Arrival
 said_of d e payload = let b = brings d e payload in said d b (hits d b)
 
 abbrev pub outcome_of : Device → Event → List ℕ → Answer → Outcome
 outcome_of d e payload a = let b = brings d e payload in outcome d e b (hits d b) a
 
-abbrev pub done_event : Device → Event → List ℕ → Answer → Step
-done_event d e payload a = record { device = (outcome_of d e payload a).device; given = answered (outcome_of d e payload a).answer }
+-- what it says of its frame, if it brought one
+abbrev pub done_event : Device → Event → List ℕ → Option Arrival → Step
+done_event d e payload told = record { device = (outcome_of d e payload (Ok told)).device; given = answered (Ok told) }
 
-by_checks : (P : Step → Type 0) (d : Device) (e : Event) (payload : List ℕ) (p q s : Bool) (a : Answer)
-    → ((n : ℕ) → eqb n 0 ≡ false → P (refused_event d n))
-    → (q ≡ false → s ≡ false → P (done_event d e payload a))
-    → P (done_event d e payload (pick p (pick q (RefusedEvent 8) (pick s (RefusedEvent 12) a)) (RefusedEvent 1)))
-by_checks P d e payload true true s a no_way way = no_way 8 refl
-by_checks P d e payload true false true a no_way way = no_way 12 refl
-by_checks P d e payload true false false a no_way way = way refl refl
-by_checks P d e payload false q s a no_way way = no_way 1 refl
+by_checks : (P : Step → Type 0) (d : Device) (e : Event) (payload : List ℕ) (p q s : Bool) (told : Option Arrival)
+    → ((refusal : Refusal) → P (refused_event d refusal))
+    → (q ≡ false → s ≡ false → P (done_event d e payload told))
+    → let o = outcome_of d e payload (pick p (pick q (Err Impossible) (pick s (Err NoNumberLeft) (Ok told))) (Err OutOfRange)) in
+    P (record { device = o.device; given = answered o.answer })
+by_checks P d e payload true true s told no_way way = no_way Impossible
+by_checks P d e payload true false true told no_way way = no_way NoNumberLeft
+by_checks P d e payload true false false told no_way way = way refl refl
+by_checks P d e payload false q s told no_way way = no_way OutOfRange
 
 pub by_event : (P : Step → Type 0) (d : Device) (e : Event) (payload : List ℕ)
-    → ((n : ℕ) → eqb n 0 ≡ false → P (refused_event d n))
+    → ((refusal : Refusal) → P (refused_event d refusal))
     → (impossible d e ≡ false → no_number_left d (said_of d e payload) ≡ false → P (done_event d e payload (said_of d e payload)))
     → P (step d (wire e payload))
 unfolding event answer answered_by

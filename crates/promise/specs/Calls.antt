@@ -3,8 +3,9 @@
 -- signature and `spec` its contract, in any model M of memory. An outcome x is the result, `x.0`, and what lent
 -- memory then holds, a place for each parameter: of `host::transfer` the third, `x.1.1.1.0`, is the reply buffer.
 -- What lent memory held at the call is `now`.
+use Rattle.std.specs.Prelude.{ℕ, Result}
 use Rattle.chip.specs.declared.Device.{Device}
-use Rattle.bus.specs.declared.types.Hits.{Hits}
+use Rattle.refusal.specs.declared.Refusal.{Refusal}
 use Rattle.bus.specs.declared.types.Numbers.{Numbers}
 use Rattle.bus.specs.declared.types.Pins.{Pins}
 use Rattle.bus.specs.contracts as bus
@@ -20,9 +21,9 @@ use Rattle.promise.specs.Explanations.{Explainer}
 use Rattle.promise.specs.Sequence.{spi, wire, Given, replied, answered, Step, Machine}
 
 module _ (M : Type 1) (step : Machine) where
-  -- `host::transfer(d, bytes, reply)`: the device, the number, and the buffer at the return
+  -- `host::transfer(d, bytes, reply)`: the device, the answer, and the buffer at the return
   abbrev pub transfer_step : (a : Inputs host.transfer.ended) → Outcome host.transfer.ended a → Step
-  transfer_step a x = record { device = x.0.device; given = replied x.0.number x.1.1.1.0 }
+  transfer_step a x = record { device = x.0.device; given = replied x.0.answer x.1.1.1.0 }
 
   abbrev pub Transfers : Type 2
   Transfers = Equates M host.transfer.ended (λ _. host.transfer.spec) (λ a. Step) transfer_step
@@ -50,14 +51,14 @@ module _ (M : Type 1) where
   -- `bus::hits(d, h, given, payload)`
   abbrev pub Tells : Question → Type 2
   Tells ask =
-      Equates M bus.hits.ended (λ _. bus.hits.spec) (λ a. Hits) (λ a x. x.0)
-      (at bus.hits.ended Hits (λ lifetimes d h given payload. ask d h given payload))
+      Equates M bus.hits.ended (λ _. bus.hits.spec) (λ a. Result ℕ Refusal) (λ a x. x.0)
+      (at bus.hits.ended (Result ℕ Refusal) (λ lifetimes d h given payload. ask d h given payload))
 
   -- `bus::numbers(d)`
   abbrev pub Lists : Lister → Type 2
   Lists list =
-      Equates M bus.numbers.ended (λ _. bus.numbers.spec) (λ a. Numbers) (λ a x. x.0)
-      (at bus.numbers.ended Numbers (λ lifetimes d. list d))
+      Equates M bus.numbers.ended (λ _. bus.numbers.spec) (λ a. Result Numbers Refusal) (λ a x. x.0)
+      (at bus.numbers.ended (Result Numbers Refusal) (λ lifetimes d. list d))
 
   -- `why::explained(d, h, acknowledged, given, payload)`
   abbrev pub Explains : Explainer → Type 2

@@ -1,7 +1,9 @@
 -- The answer that an input is due, by the records.
-use Rattle.std.specs.Prelude.{◌≡◌, true, not, List, [], ◌++◌, ℕ, eqb, length, drop}
+use Rattle.std.specs.Prelude.{◌≡◌, true, not, List, [], ◌++◌, ℕ, eqb, length, drop, Result}
 use Rattle.base.specs.Bit.{byte}
 use Rattle.base.specs.Pick.{pick}
+use Rattle.refusal.specs.declared.Refusal.{Refusal}
+use Rattle.refusal.specs.Refusal.{number_of}
 use Rattle.promise.specs.Sequence.{Input, spi, wire, Given, replied, number, values}
 use Rattle.promise.specs.Arrivals.{values_due}
 use Rattle.promise.specs.Ledger.{left}
@@ -32,7 +34,8 @@ filled reply buffer = reply ++ drop (length reply) buffer
 abbrev pub Due : Records → Input → Given → Type 0
 Due r (spi bytes buffer) given =
     let n = number_due (situation_of r) (spi bytes buffer) in
-    given ≡ replied n (pick (eqb n 0) (filled (shown r (byte bytes 1)) buffer) buffer)
+    (answer : Result (Unit {0}) Refusal) × (number_of answer ≡ n)
+    × (given ≡ replied answer (pick (eqb n 0) (filled (shown r (byte bytes 1)) buffer) buffer))
 Due r (wire e payload) given =
     let n = number_due (situation_of r) (wire e payload) in
     (number given ≡ n) × (values given ≡ pick (eqb n 0) (values_due r e payload) [])

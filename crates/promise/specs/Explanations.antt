@@ -1,11 +1,10 @@
 -- Why a frame would not arrive (02, b)), said of any way to explain it.
-use Rattle.std.specs.Prelude.{◌≡◌, Bool, true, ◌&&◌, ◌||◌, List, [], ℕ, ◌<◌, eqb, ltb, length, get_or, replicate}
+use Rattle.std.specs.Prelude.{◌≡◌, Bool, true, ◌&&◌, ◌||◌, List, [], ℕ, ◌<◌, eqb, ltb, length, get_or, replicate, Option, Some, None, Ok}
 use Rattle.base.specs.Bit.{bit, byte, is_set}
 use Rattle.base.specs.Pick.{among}
 use Rattle.frame.specs.declared.Header.{Header}
 use Rattle.chip.specs.declared.Device.{Device}
 use Rattle.receive.specs.declared.Arrival.TheVariants.{A4}
-use Rattle.judged.specs.declared.Answer.TheVariants.{Arrived}
 use Rattle.events.specs.declared.Event.TheVariants.{GoodFrame}
 use Rattle.why.specs.declared.Place.{Place}
 use Rattle.why.specs.declared.Why.{Why}
@@ -48,19 +47,16 @@ pub record IsFirst (frame filter mask : List ℕ) (p : Place) : Type 0 where
   pub differ : p.wanted ≡ p.came → ⊥
   pub first : (b i : ℕ) → before b i p ≡ true → counts_at mask b i ≡ true → bit i (byte frame b) ≡ bit i (byte filter b)
 
--- byte 0, which there isn't
-abbrev pub no_place : Place
-no_place = record { byte = 0; bit = 0; wanted = 0; came = 0 }
-
 -- under A4 each filter has one, "by rising filter"
-abbrev pub EachHasOne : Device → Header → List ℕ → List Place → Type 0
+abbrev pub EachHasOne : Device → Header → List ℕ → List (Option Place) → Type 0
 EachHasOne d h payload ps =
     (length ps ≡ 8)
-    × ((k : ℕ) → k < 8 → IsFirst (compared h payload) (get_or (patterns d.filters) k []) (get_or (patterns d.masks) k []) (get_or ps k no_place))
+    × ((k : ℕ) → k < 8 → (p : Place) × (get_or ps k None ≡ Some p)
+    × IsFirst (compared h payload) (get_or (patterns d.filters) k []) (get_or (patterns d.masks) k []) p)
 
 -- In every device, for A4, and only then, the places of the eight filters.
 abbrev pub Pointed : Explainer → Type 0
 Pointed explain = (d : Device) (h : Header) (acknowledged : Bool) (count : ℕ) (payload : List ℕ)
     → let w = explain d h acknowledged count payload in
-    (w.answer ≡ Arrived A4 → EachHasOne d h payload w.places)
-    × ((w.answer ≡ Arrived A4 → ⊥) → w.places ≡ replicate 8 no_place)
+    (w.answer ≡ Ok (Some A4) → EachHasOne d h payload w.places)
+    × ((w.answer ≡ Ok (Some A4) → ⊥) → w.places ≡ replicate 8 None)

@@ -1,9 +1,12 @@
 -- The arrival numbers (02, g)): what a device has of them, what a read takes by them, and any way to ask for them.
-use Rattle.std.specs.Prelude.{◌≡◌, Bool, true, false, ◌&&◌, List, [], ◌∷◌, ◌++◌, map, ℕ, ◌+◌, ◌-◌, ◌<◌, ◌≤◌, length, get_or, drop, replicate}
+use Rattle.std.specs.Prelude.{◌≡◌, Bool, true, false, ◌&&◌, List, [], ◌∷◌, ◌++◌, map, ℕ, ◌+◌, ◌-◌, ◌<◌, ◌≤◌, length, get_or, drop, replicate, Result, Ok, Err}
 use Rattle.base.specs.Bit.{byte}
 use Rattle.base.specs.Pick.{flag}
 use Rattle.fifo.specs.Queue.{ring}
 use Rattle.chip.specs.declared.Device.{Device}
+use Rattle.refusal.specs.declared.Refusal.{Refusal}
+use Rattle.refusal.specs.declared.Refusal.TheVariants.{OutOfRange}
+use Rattle.refusal.specs.Refusal.{number_of}
 use Rattle.bus.specs.declared.types.Numbers.{Numbers}
 use Rattle.promise.specs.Sequence.{Input, spi, wire, Given, Step, Machine, values, fate, done}
 use Rattle.promise.specs.Commands.{message_reads, one_of}
@@ -71,16 +74,12 @@ CountsOn step = (d : Device) (i : Input) → (step d i).device.serials.last ≡ 
 
 -- of a device: its numbers
 abbrev pub Lister : Type 0
-Lister = Device → Numbers
-
--- nothing beside a number
-abbrev pub nothing_told : ℕ → Numbers
-nothing_told n = record { number = n; last = 0; temp = 0; count = 0; waiting = replicate 8 0 }
+Lister = Device → Result Numbers Refusal
 
 -- In every device it is answered: 1, as a transfer and an event are, else 0.
 abbrev pub ToldOfAny : Lister → Type 0
 ToldOfAny list = (d : Device)
-    → (device_in_range d ≡ true → (list d).number ≡ 0) × (device_in_range d ≡ false → list d ≡ nothing_told 1)
+    → (device_in_range d ≡ true → number_of (list d) ≡ 0) × (device_in_range d ≡ false → list d ≡ Err OutOfRange)
 
 -- the accepted frames that wait, as the ledger has them
 abbrev pub untaken : Ledger → List Frame
@@ -92,10 +91,9 @@ in_eight ns = ns ++ replicate (8 - length ns) 0
 
 -- by the records: the last given, that of the latest frame, and those of the frames that wait, oldest first
 abbrev pub Listed : Lister → Device → Records → Type 0
-Listed list d r = list d ≡ record {
-  number = 0;
+Listed list d r = list d ≡ Ok (record {
   last = r.arrivals;
   temp = r.latest.serial;
   count = left r.ledger;
   waiting = in_eight (serials (untaken r.ledger));
-}
+})

@@ -1,5 +1,5 @@
 -- Demand 1: every input in every device is answered, by 01's table of numbers (01, Numbers given back; 02, g)).
-use Rattle.std.specs.Prelude.{◌≡◌, Bool, true, false, not, ◌&&◌, ◌||◌, List, [], ◌∷◌, ◌++◌, ◌↔◌, ℕ, zero, suc, ◌-◌, ◌^◌, ◌<◌, ◌≤◌, eqb, leb, ltb, length}
+use Rattle.std.specs.Prelude.{◌≡◌, Bool, true, false, not, ◌&&◌, ◌||◌, List, [], ◌∷◌, ◌++◌, ◌↔◌, ℕ, zero, suc, ◌-◌, ◌^◌, ◌<◌, ◌≤◌, eqb, leb, ltb, length, Result, Err, is_err}
 use Rattle.base.specs.Bit.{byte}
 use Rattle.base.specs.Pick.{pick, among}
 use Rattle.chip.specs.declared.Device.{Device}
@@ -8,9 +8,8 @@ use Rattle.events.specs.declared.Event.{Event}
 use Rattle.events.specs.declared.Event.TheVariants.{GoodFrame, ReceiveError, DominantBit, TransmitError, Begun}
 use Rattle.events.specs.declared.Event.TheVariants.{Completed, ArbitrationLost, ElevenRecessive, BusQuiet, BusActivity}
 use Rattle.events.specs.declared.Event.TheVariants.{Ticks, TxenPin, MrPin, Unknown}
-use Rattle.bus.specs.Event.{number_of}
-use Rattle.judged.specs.declared.Answer.{Answer}
-use Rattle.judged.specs.declared.Answer.TheVariants.{Refused as RefusedEvent, Done, Arrived}
+use Rattle.refusal.specs.declared.Refusal.{Refusal}
+use Rattle.refusal.specs.Refusal.{number_of}
 use Rattle.promise.specs.Sequence.{Input, spi, wire, Given, replied, answered, Step, Machine, number, run}
 use Rattle.promise.specs.Arrivals.{none_true, from_the_bus}
 use Rattle.promise.specs.Commands.{message_reads, sets_up, same_for, is_command, lengths_of, transfer_fits}
@@ -138,30 +137,35 @@ number_due s i = first_from (applies s i) 1 12
 
 -- ---- the promises
 
-abbrev pub refuses : Answer → Bool
-refuses (RefusedEvent n) = true
-refuses Done = false
-refuses (Arrived what) = false
+abbrev pub refuses : {A : Type 0} → Result A Refusal → Bool
+refuses a = is_err a
 
 -- a transfer is replied to and an event answered, as refused exactly if the number is not 0
 abbrev pub Fits : Input → Given → Type 0
-Fits (spi bytes buffer) (replied n after) = Unit {0}
+Fits (spi bytes buffer) (replied a after) = refuses a ≡ not (eqb (number_of a) 0)
 Fits (spi bytes buffer) (answered a) = ⊥
-Fits (wire e payload) (replied n after) = ⊥
+Fits (wire e payload) (replied a after) = ⊥
 Fits (wire e payload) (answered a) = refuses a ≡ not (eqb (number_of a) 0)
 
--- what a refusal leaves: the device as it came, the lent buffer as it came, and nothing given but the number
+-- whether it is given as refused
+abbrev pub is_refusal : Given → Bool
+is_refusal (replied a after) = refuses a
+is_refusal (answered a) = refuses a
+
+-- what a refusal leaves: the device as it came, the lent buffer as it came, and nothing given but the refusal
 abbrev pub Untouched : Device → Input → Step → Type 0
-Untouched d (spi bytes buffer) s = s ≡ record { device = d; given = replied (number s.given) buffer }
-Untouched d (wire e payload) s = s ≡ record { device = d; given = answered (RefusedEvent (number s.given)) }
+Untouched d (spi bytes buffer) s = (refusal : Refusal) × (s ≡ record { device = d; given = replied (Err refusal) buffer })
+Untouched d (wire e payload) s = (refusal : Refusal) × (s ≡ record { device = d; given = answered (Err refusal) })
 
 module _ (step : Machine) where
   abbrev pub number_given : Device → Input → ℕ
   number_given d i = number (step d i).given
 
-  -- Every input in every device is answered, by one of 01's numbers.
+  -- Every input in every device is answered, by one of 01's numbers, and as refused exactly if one applies.
   abbrev pub Answered : Type 0
-  Answered = (d : Device) (i : Input) → (number_given d i ≤ 12) × Fits i (step d i).given
+  Answered = (d : Device) (i : Input)
+      → (number_given d i ≤ 12) × Fits i (step d i).given
+      × (is_refusal (step d i).given ≡ not (eqb (number_due (situation d) i) 0))
 
   -- The number is the first that applies, and 0 if none does.
   abbrev pub First : Type 0

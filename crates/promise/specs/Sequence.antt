@@ -1,10 +1,11 @@
 -- What happens to a device: transfers and events, one after the other, and what is said meanwhile. The promises are
 -- said of any machine that takes them, and kept by the one that is shipped.
-use Rattle.std.specs.Prelude.{Bool, List, [], ◌∷◌, ℕ, eqb, length, get_or}
+use Rattle.std.specs.Prelude.{Bool, List, [], ◌∷◌, ℕ, eqb, length, get_or, Result}
 use Rattle.chip.specs.declared.Device.{Device}
 use Rattle.events.specs.declared.Event.{Event}
-use Rattle.judged.specs.declared.Answer.{Answer}
-use Rattle.bus.specs.Event.{event, number_of, values_of}
+use Rattle.refusal.specs.declared.Refusal.{Refusal}
+use Rattle.refusal.specs.Refusal.{number_of}
+use Rattle.bus.specs.Event.{Answer, event, values_of}
 use Rattle.host.specs.Transfer.{transfer, reply_after}
 
 pub data Input : Type 0 where
@@ -14,8 +15,8 @@ pub data Input : Type 0 where
   wire : Event → List ℕ → Input
 
 pub data Given : Type 0 where
-  -- a transfer's number, and what the lent buffer then holds
-  replied : ℕ → List ℕ → Given
+  -- whether a transfer is done or refused, and what the lent buffer then holds
+  replied : Result (Unit {0}) Refusal → List ℕ → Given
   answered : Answer → Given
 
 pub record Step : Type 0 where
@@ -30,7 +31,7 @@ Machine = Device → Input → Step
 abbrev pub shipped : Machine
 shipped d (spi bytes buffer) = record {
   device = (transfer d bytes (length buffer)).device;
-  given = replied (transfer d bytes (length buffer)).number (reply_after d bytes buffer);
+  given = replied (transfer d bytes (length buffer)).answer (reply_after d bytes buffer);
 }
 shipped d (wire e payload) = record {
   device = (event d e payload).device;
@@ -39,12 +40,12 @@ shipped d (wire e payload) = record {
 
 -- 01's number
 abbrev pub number : Given → ℕ
-number (replied n buffer) = n
+number (replied answer buffer) = number_of answer
 number (answered a) = number_of a
 
 -- and what an event says beside it: 0 for Queued, 1 to 4 for A1 to A4; for Queued-over-latest 6 and what was lost
 abbrev pub values : Given → List ℕ
-values (replied n buffer) = []
+values (replied answer buffer) = []
 values (answered a) = values_of a
 
 -- Of these the first, which says what became of the frame; 7, which no frame is told, where there is none.

@@ -1,6 +1,6 @@
 -- Devices that the promises rule out: the shipped one, but for one thing. `proofs/RuledOut` shows of each a sequence,
 -- or a device, on which it breaks its promise.
-use Rattle.std.specs.Prelude.{Bool, not, ◌&&◌, ◌||◌, List, [], ◌∷◌, ◌++◌, map, ℕ, ◌+◌, ◌-◌, ◌%◌, min, eqb, ltb, get_or, set, drop, take as first_of}
+use Rattle.std.specs.Prelude.{Bool, not, ◌&&◌, ◌||◌, List, [], ◌∷◌, ◌++◌, map, ℕ, ◌+◌, ◌-◌, ◌%◌, min, eqb, ltb, get_or, set, drop, take as first_of, Some, None, Ok, Err}
 use Rattle.base.specs.Bit.{byte, is_set}
 use Rattle.base.specs.Pick.{pick, among}
 use Rattle.fifo.specs.declared.Fifo.{Fifo}
@@ -13,7 +13,7 @@ use Rattle.chip.specs.Parts.{with_rx, with_tx, with_temp, with_buffer, with_regs
 use Rattle.receive.specs.declared.Arrival.{Arrival}
 use Rattle.receive.specs.declared.Arrival.TheVariants.{Queued, QueuedOver, A1, A2, A3, A4}
 use Rattle.receive.specs.Receive.{over_latest}
-use Rattle.judged.specs.declared.Answer.TheVariants.{Refused, Done, Arrived}
+use Rattle.refusal.specs.declared.Refusal.TheVariants.{Impossible}
 use Rattle.host.specs.Transfer.{reply_after}
 use Rattle.promise.specs.Sequence.{Input, spi, wire, Given, replied, answered, Step, Machine, shipped, number}
 use Rattle.promise.specs.Sequence.{values, fate, done}
@@ -60,7 +60,7 @@ abbrev pub replying : List ℕ → (Device → Device) → Machine
 replying commands draw d (spi bytes buffer) =
     let s : Step = shipped d (spi bytes buffer) in
     pick (done s.given && one_of (byte bytes 1) commands)
-    (with_given s (replied 0 (reply_after (draw d) bytes buffer)))
+    (with_given s (replied (Ok tt) (reply_after (draw d) bytes buffer)))
     s
 replying commands draw d (wire e payload) = shipped d (wire e payload)
 
@@ -90,7 +90,7 @@ only_first = but (λ d i s. pick (tells 0 s.given && not (is_empty d.rx)) (with_
 
 -- 01: "The room test is made before the filters", so that a stranger's frame is told Queued-over-latest
 abbrev pub room_first : Machine
-room_first = but (λ d i s. pick (full d.rx && tells 4 s.given) (with_given s (answered (Arrived (over_latest d.rx)))) s)
+room_first = but (λ d i s. pick (full d.rx && tells 4 s.given) (with_given s (answered (Ok (Some (over_latest d.rx))))) s)
 
 -- A1 for A2 and A2 for A1
 abbrev pub exchanged_reason : Arrival → Arrival
@@ -102,47 +102,46 @@ exchanged_reason A3 = A3
 exchanged_reason A4 = A4
 
 abbrev pub retold : (Arrival → Arrival) → Given → Given
-retold tell (replied n buffer) = replied n buffer
-retold tell (answered (Refused n)) = answered (Refused n)
-retold tell (answered Done) = answered Done
-retold tell (answered (Arrived what)) = answered (Arrived (tell what))
+retold tell (replied answer buffer) = replied answer buffer
+retold tell (answered (Err refused)) = answered (Err refused)
+retold tell (answered (Ok None)) = answered (Ok None)
+retold tell (answered (Ok (Some what))) = answered (Ok (Some (tell what)))
 
 abbrev pub reasons_exchanged : Machine
 reasons_exchanged = but (λ d i s. with_given s (retold exchanged_reason s.given))
 
 -- one that says Queued where no frame came
 abbrev pub boast : Given → Given
-boast (replied n buffer) = replied n buffer
-boast (answered (Refused n)) = answered (Refused n)
-boast (answered Done) = answered (Arrived Queued)
-boast (answered (Arrived what)) = answered (Arrived what)
+boast (replied answer buffer) = replied answer buffer
+boast (answered (Err refused)) = answered (Err refused)
+boast (answered (Ok None)) = answered (Ok (Some Queued))
+boast (answered (Ok (Some what))) = answered (Ok (Some what))
 
 abbrev pub boasts : Machine
 boasts = but (λ d i s. with_given s (boast s.given))
 
 -- one that queues a frame and says nothing of it
 abbrev pub hushed : Given → Given
-hushed (replied n buffer) = replied n buffer
-hushed (answered (Refused n)) = answered (Refused n)
-hushed (answered Done) = answered Done
-hushed (answered (Arrived what)) = answered Done
+hushed (replied answer buffer) = replied answer buffer
+hushed (answered (Err refused)) = answered (Err refused)
+hushed (answered (Ok told)) = answered (Ok None)
 
 abbrev pub queues_in_silence : Machine
 queues_in_silence = but (λ d i s. pick (tells 0 s.given) (with_given s (hushed s.given)) s)
 
--- one that answers as refused what it has done, with 0
+-- one that answers as refused what it has done
 abbrev pub denial : Given → Given
-denial (replied n buffer) = replied n buffer
-denial (answered (Refused n)) = answered (Refused n)
-denial (answered Done) = answered (Refused 0)
-denial (answered (Arrived what)) = answered (Arrived what)
+denial (replied answer buffer) = replied answer buffer
+denial (answered (Err refused)) = answered (Err refused)
+denial (answered (Ok None)) = answered (Err Impossible)
+denial (answered (Ok (Some what))) = answered (Ok (Some what))
 
 abbrev pub denies_done : Machine
 denies_done = but (λ d i s. with_given s (denial s.given))
 
 -- one that says Queued where 8 is due: of a frame that can't be, too
 abbrev pub believes_all : Machine
-believes_all = but (λ d i s. pick (eqb (number s.given) 8) (with_given s (answered (Arrived Queued))) s)
+believes_all = but (λ d i s. pick (eqb (number s.given) 8) (with_given s (answered (Ok (Some Queued)))) s)
 
 -- a read that takes two messages
 abbrev pub takes_two : Machine

@@ -1,15 +1,14 @@
 -- Ways to explain why a frame would not arrive that the promises rule out.
-use Rattle.std.specs.Prelude.{Bool, not, ◌&&◌, List, [], ◌∷◌, ◌++◌, map, ℕ, eqb, get_or, replicate}
+use Rattle.std.specs.Prelude.{Bool, not, ◌&&◌, List, [], ◌∷◌, ◌++◌, map, ℕ, eqb, get_or, replicate, Option, Some, None, Ok}
 use Rattle.base.specs.Bit.{bit, byte, is_set}
 use Rattle.base.specs.Pick.{pick}
 use Rattle.frame.specs.declared.Header.{Header}
 use Rattle.chip.specs.declared.Device.{Device}
-use Rattle.judged.specs.declared.Answer.{Answer}
-use Rattle.judged.specs.declared.Answer.TheVariants.{Done}
+use Rattle.bus.specs.Event.{Answer}
 use Rattle.events.specs.declared.Event.TheVariants.{GoodFrame}
 use Rattle.why.specs.declared.Place.{Place}
 use Rattle.why.specs.Why.{no_filter, explained}
-use Rattle.promise.specs.Explanations.{Explainer, named, counts_at, no_place}
+use Rattle.promise.specs.Explanations.{Explainer, named, counts_at}
 use Rattle.promise.specs.Filters.{compared, eight_bits}
 use Rattle.promise.specs.Hits.{eight}
 use Rattle.promise.specs.Sequence.{Given, replied, answered, wire}
@@ -20,7 +19,7 @@ use Rattle.promise.specs.Wrong.{room_first}
 
 -- what an event is answered; only a transfer is replied to
 abbrev pub said : Given → Answer
-said (replied n buffer) = Done
+said (replied a buffer) = Ok None
 said (answered a) = a
 
 -- that of a device which asks for room before the filters
@@ -44,14 +43,14 @@ bits_of [] bits = []
 bits_of (b ∷ bs) bits = map (λ i. (b, i)) bits ++ bits_of bs bits
 
 -- in this order, the first of which it says yes
-abbrev pub first_among : Asks → List (ℕ × ℕ) → List ℕ → List ℕ → List ℕ → Place
-first_among asks [] frame filter mask = no_place
+abbrev pub first_among : Asks → List (ℕ × ℕ) → List ℕ → List ℕ → List ℕ → Option Place
+first_among asks [] frame filter mask = None
 first_among asks ((b, i) ∷ ps) frame filter mask =
     pick (asks frame filter mask b i)
-    (record { byte = b; bit = i; wanted = bit i (byte filter b); came = bit i (byte frame b) })
+    (Some (record { byte = b; bit = i; wanted = bit i (byte filter b); came = bit i (byte frame b) }))
     (first_among asks ps frame filter mask)
 
-abbrev pub found : Asks → List (ℕ × ℕ) → Device → Header → List ℕ → List Place
+abbrev pub found : Asks → List (ℕ × ℕ) → Device → Header → List ℕ → List (Option Place)
 found asks order d h payload =
     map
     (λ k. first_among asks order (compared h payload) (get_or (patterns d.filters) k []) (get_or (patterns d.masks) k []))
@@ -89,7 +88,7 @@ unnamed_counts = pointing (λ frame filter mask b i. is_set i (byte mask b) && d
 abbrev pub says_nothing : Explainer
 says_nothing d h acknowledged count payload = record {
   answer = (explained d h acknowledged count payload).answer;
-  places = replicate 8 no_place;
+  places = replicate 8 None;
 }
 
 -- places for a frame that is queued, too

@@ -1,5 +1,5 @@
 -- Devices that overwrite another message than 02 d) says, or too early, or tell it wrong.
-use Rattle.std.specs.Prelude.{Bool, not, ◌&&◌, ℕ, eqb, set}
+use Rattle.std.specs.Prelude.{Bool, not, ◌&&◌, ℕ, eqb, set, Some, Ok}
 use Rattle.base.specs.Bit.{is_set}
 use Rattle.base.specs.Pick.{pick}
 use Rattle.fifo.specs.declared.Fifo.{Fifo}
@@ -8,7 +8,6 @@ use Rattle.fifo.specs.Queue.{place, is_empty, put, take, latest_place, latest}
 use Rattle.chip.specs.declared.Device.{Device}
 use Rattle.receive.specs.declared.Arrival.TheVariants.{Queued}
 use Rattle.receive.specs.Receive.{over_latest}
-use Rattle.judged.specs.declared.Answer.TheVariants.{Arrived}
 use Rattle.promise.specs.Sequence.{answered, Machine}
 use Rattle.promise.specs.Wrong.{but, with_given, with_queue, tells}
 
@@ -43,7 +42,7 @@ over_early when =
     pick (when d && (tells 0 s.given && not (is_empty d.rx)))
     (with_given
     (with_queue s (at d.rx (latest_place d.rx) (latest s.device.rx)))
-    (answered (Arrived (over_latest d.rx))))
+    (answered (Ok (Some (over_latest d.rx)))))
     s)
 
 -- with seven waiting
@@ -58,8 +57,8 @@ leisurely = over_early (λ d. is_set 0 d.time)
 
 -- one that names the frame that came, and not the one that was lost
 abbrev pub names_new : Machine
-names_new = but (λ d i s. pick (tells 6 s.given) (with_given s (answered (Arrived (over_latest s.device.rx)))) s)
+names_new = but (λ d i s. pick (tells 6 s.given) (with_given s (answered (Ok (Some (over_latest s.device.rx))))) s)
 
 -- one that overwrites, and only says Queued
 abbrev pub over_in_silence : Machine
-over_in_silence = but (λ d i s. pick (tells 6 s.given) (with_given s (answered (Arrived Queued))) s)
+over_in_silence = but (λ d i s. pick (tells 6 s.given) (with_given s (answered (Ok (Some Queued)))) s)

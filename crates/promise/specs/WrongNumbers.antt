@@ -1,5 +1,5 @@
 -- Devices that number arrivals otherwise than 02 g) says, and ways to ask for the numbers that the promises rule out.
-use Rattle.std.specs.Prelude.{Bool, ◌&&◌, List, [], ◌∷◌, map, ℕ, ◌+◌, ◌-◌, ◌^◌, eqb, ltb, get_or, set}
+use Rattle.std.specs.Prelude.{Bool, ◌&&◌, List, [], ◌∷◌, map, ℕ, ◌+◌, ◌-◌, ◌^◌, eqb, ltb, get_or, set, replicate, Result, Ok, Err}
 use Rattle.base.specs.Bit.{byte, is_set}
 use Rattle.base.specs.Pick.{pick}
 use Rattle.fifo.specs.Queue.{place, latest_place}
@@ -7,7 +7,8 @@ use Rattle.chip.specs.declared.Device.{Device}
 use Rattle.chip.specs.declared.Serials.{Serials}
 use Rattle.chip.specs.Parts.{with_serials, with_last}
 use Rattle.transmit.specs.Transmit.{stopped}
-use Rattle.judged.specs.declared.Answer.TheVariants.{Refused}
+use Rattle.refusal.specs.declared.Refusal.{Refusal}
+use Rattle.refusal.specs.declared.Refusal.TheVariants.{NoNumberLeft}
 use Rattle.bus.specs.declared.types.Numbers.{Numbers}
 use Rattle.bus.specs.Numbers.{numbers}
 use Rattle.promise.specs.Sequence.{answered, Step, Machine, shipped, number, values, fate}
@@ -83,7 +84,7 @@ takes_latest =
 -- ---- 12
 
 abbrev pub twelve : Device → Step
-twelve d = record { device = d; given = answered (Refused 12) }
+twelve d = record { device = d; given = answered (Err NoNumberLeft) }
 
 -- one too early
 abbrev pub twelve_early : Machine
@@ -110,17 +111,24 @@ twelve_stops = but (λ d i s. pick (eqb (number s.given) 12) (with_device s (sto
 
 -- ---- the question
 
+-- what is told, told otherwise
+abbrev pub retold : (Numbers → Numbers) → Result Numbers Refusal → Result Numbers Refusal
+retold tell (Ok told) = Ok (tell told)
+retold tell (Err refused) = Err refused
+
 -- the next for the last
 abbrev pub tells_next : Lister
 tells_next d =
-    let told = numbers d in
-    record { number = told.number; last = told.last + 1; temp = told.temp; count = told.count; waiting = told.waiting }
+    retold
+    (λ told. record { last = told.last + 1; temp = told.temp; count = told.count; waiting = told.waiting })
+    (numbers d)
 
 -- those that wait told otherwise
 abbrev pub listing : (Device → Numbers → ℕ → ℕ) → Lister
 listing another d =
-    let told = numbers d in
-    record { number = told.number; last = told.last; temp = told.temp; count = told.count; waiting = map (another d told) eight }
+    retold
+    (λ told. record { last = told.last; temp = told.temp; count = told.count; waiting = map (another d told) eight })
+    (numbers d)
 
 -- the newest first
 abbrev pub newest_first : Lister
@@ -135,7 +143,9 @@ abbrev pub read_ones_too : Lister
 read_ones_too = listing (λ d told k. get_or d.serials.places (place d.rx k) 0)
 
 -- 0 for a device that is out of range
+abbrev pub never_refused : Result Numbers Refusal → Result Numbers Refusal
+never_refused (Ok told) = Ok told
+never_refused (Err refused) = Ok (record { last = 0; temp = 0; count = 0; waiting = replicate 8 0 })
+
 abbrev pub of_any_device : Lister
-of_any_device d =
-    let told = numbers d in
-    record { number = 0; last = told.last; temp = told.temp; count = told.count; waiting = told.waiting }
+of_any_device d = never_refused (numbers d)

@@ -1,19 +1,23 @@
 -- Ways to ask which filters match that the promises rule out.
-use Rattle.std.specs.Prelude.{map, ℕ, ◌-◌, ◌%◌, eqb}
+use Rattle.std.specs.Prelude.{map, ℕ, ◌-◌, ◌%◌, eqb, Result, Ok, Err}
 use Rattle.base.specs.Bit.{is_set}
 use Rattle.base.specs.Pick.{pick}
 use Rattle.chip.specs.declared.Device.{Device}
 use Rattle.chip.specs.State.{filton}
+use Rattle.refusal.specs.declared.Refusal.{Refusal}
+use Rattle.refusal.specs.Refusal.{number_of}
 use Rattle.bus.specs.Hits.{hits}
 use Rattle.promise.specs.Frames.{data_count}
 use Rattle.promise.specs.Hits.{eight, as_bits}
 use Rattle.promise.specs.Questions.{Question}
 
 -- told with another set
+abbrev pub retold : (ℕ → ℕ) → Result ℕ Refusal → Result ℕ Refusal
+retold tell (Ok set) = Ok (tell set)
+retold tell (Err refused) = Err refused
+
 abbrev pub telling : (Device → ℕ → ℕ) → Question
-telling another d h count payload =
-    let given = hits d h count payload in
-    record { number = given.number; set = pick (eqb given.number 0) (another d given.set) 0 }
+telling another d h count payload = retold (another d) (hits d h count payload)
 
 -- none while FILTON is at 0
 abbrev pub while_on : Question
@@ -31,7 +35,7 @@ without_seven = telling (λ d set. set % 128)
 abbrev pub any_device : Question
 any_device d h count payload =
     let given = hits d h count payload in
-    record { number = pick (eqb given.number 1) 0 given.number; set = given.set }
+    pick (eqb (number_of given) 1) (Ok 0) given
 
 -- the set, however many data bytes the frame has
 abbrev pub any_frame : Question

@@ -1,5 +1,5 @@
 -- More devices that the promises rule out: in their commands and settings, flags and pins, replies and counters.
-use Rattle.std.specs.Prelude.{true, ◌&&◌, ◌||◌, List, [], ◌∷◌, ℕ, ◌+◌, ◌*◌, ◌/◌, ◌%◌, eqb, ltb, drop, set, replicate}
+use Rattle.std.specs.Prelude.{true, ◌&&◌, ◌||◌, List, [], ◌∷◌, ℕ, ◌+◌, ◌*◌, ◌/◌, ◌%◌, eqb, ltb, drop, set, replicate, Some, Ok, Err}
 use Rattle.std.specs.Int.Bits.{bit_or}
 use Rattle.base.specs.Bit.{byte, bit, is_set}
 use Rattle.base.specs.Pick.{pick}
@@ -14,6 +14,7 @@ use Rattle.chip.specs.declared.Registers.{Registers}
 use Rattle.chip.specs.State.{monitor, sleep, alone}
 use Rattle.chip.specs.Parts.{with_rx, with_counters, with_acting, with_regs, with_ctrl0, with_ctrl1, with_errs}
 use Rattle.chip.specs.Parts.{with_intf, with_hits}
+use Rattle.refusal.specs.declared.Refusal.TheVariants.{NoCommand}
 use Rattle.receive.specs.Receive.{hits, message}
 use Rattle.judged.specs.Judged.{bus_frame}
 use Rattle.bus.specs.declared.types.Pins.{Pins}
@@ -135,7 +136,7 @@ abbrev pub hit_now : Device → Message → Message
 hit_now d m =
     let h = header_in m.bytes in
     let bytes = data_in m.bytes in
-    record { bytes = byte (message d h bytes (hits d (bus_frame h true bytes))).bytes 1 ∷ drop 1 m.bytes }
+    record { bytes = byte (message d h bytes (hits d (Some (bus_frame h true bytes)))).bytes 1 ∷ drop 1 m.bytes }
 
 -- a hit computed at read time
 abbrev pub hit_at_read : Machine
@@ -148,8 +149,8 @@ hit_at_read =
 
 -- 01: "one that replies zeros always"
 abbrev pub blanked : List ℕ → Given → Given
-blanked bytes (replied n buffer) =
-    replied n (pick (eqb n 0) (put_of (replicate (lengths_of (byte bytes 1)).out 0) buffer) buffer)
+blanked bytes (replied (Ok done) buffer) = replied (Ok done) (put_of (replicate (lengths_of (byte bytes 1)).out 0) buffer)
+blanked bytes (replied (Err refused) buffer) = replied (Err refused) buffer
 blanked bytes (answered a) = answered a
 
 abbrev pub replies_zeros : Machine
@@ -173,7 +174,7 @@ clears_first = replying (0xDC ∷ 0xDE ∷ []) (λ d. with_regs d (with_errs (wi
 
 -- 01: "a device that refuses each transfer"
 abbrev pub refuses_all : Machine
-refuses_all d (spi bytes buffer) = record { device = d; given = replied 2 buffer }
+refuses_all d (spi bytes buffer) = record { device = d; given = replied (Err NoCommand) buffer }
 refuses_all d (wire e payload) = shipped d (wire e payload)
 
 -- ---- counters

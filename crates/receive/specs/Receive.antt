@@ -1,6 +1,6 @@
 -- A frame that the mode takes, from the bus or, in loopback, of our own (01, Numbers given back, and Modes and
 -- filters).
-use Rattle.std.specs.Prelude.{Bool, true, false, ◌&&◌, List, ℕ, ◌+◌, eqb, set}
+use Rattle.std.specs.Prelude.{Bool, true, false, ◌&&◌, List, ℕ, ◌+◌, eqb, set, Option, Some, None}
 use Rattle.base.specs.Bit.{is_set}
 use Rattle.base.specs.Pick.{pick}
 use Rattle.fifo.specs.declared.Fifo.{Fifo}
@@ -26,8 +26,9 @@ matching d h bytes = filter.hits (bank d.filters) (bank d.masks) (compared h byt
 
 -- The filters that a frame hits, if one comes: "FILHIT shows the lowest match …; with FILTON at 0 it is 0000", and the
 -- set is then empty.
-unfoldable pub hits : Device → Brought → ℕ
-hits d b = pick (b.comes && filton d) (matching d b.header b.payload) 0
+unfoldable pub hits : Device → Option Brought → ℕ
+hits d None = 0
+hits d (Some b) = pick (filton d) (matching d b.header b.payload) 0
 
 -- 02, d): "The event names the identifier that was lost", that of the latest message
 unfoldable pub over_latest : Fifo → Arrival
@@ -87,14 +88,11 @@ abbrev pub own_data : Device → List ℕ
 own_data d = data_in d.buffer.bytes
 
 -- "In loopback each completed own message arrives as a good frame"
-unfoldable pub own_frame : Device → Brought
-own_frame d = record {
-  comes = eqb d.acting loopback;
-  own = true;
-  acknowledged = true;
-  header = own_header d;
-  payload = own_data d;
-}
+unfoldable pub own_frame : Device → Option Brought
+own_frame d =
+    pick (eqb d.acting loopback)
+    (Some (record { own = true; acknowledged = true; header = own_header d; payload = own_data d }))
+    None
 
 -- the frame's sixteen bytes, "what it says of the message fixed when stored"
 abbrev pub message : Device → Header → List ℕ → ℕ → Message

@@ -2,15 +2,16 @@
 #![tactic(auto)]
 
 ghost use Rattle.std.specs.Prelude.{◌≡◌};
-ghost use Rattle.receive.specs.Receive.{matching, hits, over_latest, filters_and_room, is_queued, reaches_temporary, queued_flag};
-ghost use Rattle.receive.specs.Receive.{filter_flag, queue_after, next_serial, serials_after, own_frame, arrived};
+ghost use Rattle.receive.specs.Receive.{matching, hits, over_latest, filters_and_room, is_queued, reaches_temporary};
+ghost use Rattle.receive.specs.Receive.{queued_flag, filter_flag, queue_after, next_serial, serials_after, own_frame};
+ghost use Rattle.receive.specs.Receive.{arrived};
 
 use chip::{Device, LOOPBACK, Serials};
 use fifo::{Fifo, Message};
 use frame::Header;
 
 // What becomes of a good frame.
-#[derive(Clone, Copy)]
+#[derive(Clone, Copy, Debug, PartialEq, Eq)]
 pub enum Arrival {
     Queued,
     // Queued in the place of the latest of eight that waited. That one is lost: its identifier, and whether it is an
@@ -26,11 +27,9 @@ pub enum Arrival {
     A4,
 }
 
-// What an event brings.
-#[derive(Clone, Copy)]
+// The frame that an event brings.
+#[derive(Clone, Copy, Debug, PartialEq, Eq)]
 pub struct Brought {
-    // Whether a frame comes at all.
-    pub comes: bool,
     // Our own message, or a frame from the bus.
     pub own: bool,
     // Whether another node acknowledged it. Of our own message nothing asks, and it is true.
@@ -44,25 +43,21 @@ pub struct Brought {
 pub fn matching(d: Device, h: Header, payload: [u8; 8]) -> u8
     ensures { result ≡ matching d h payload }
 {
-    let filters = d.filters;
-    let masks = d.masks;
-    let bank = chip::bank(filters);
-    let mask_bank = chip::bank(masks);
-    let vector = frame::compared(h, payload);
-    filter::hits(bank, mask_bank, vector)
+    filter::hits(
+        chip::bank(d.filters),
+        chip::bank(d.masks),
+        frame::compared(h, payload),
+    )
 }
 
 // The filters that a frame hits: where none comes, or FILTON is off, none is asked.
 #[tactic(auto, using(base::specs::Pick::picks, base::specs::Pick::judges), unfolding(crate::specs::Receive::hits))]
-pub fn hits(d: Device, b: Brought) -> u8
+pub fn hits(d: Device, b: Option<Brought>) -> u8
     ensures { result ≡ hits d b }
 {
-    let comes = b.comes;
-    if comes & chip::filton(d) {
-        let payload = b.payload;
-        matching(d, b.header, payload)
-    } else {
-        0
+    match b {
+        Some(b) if chip::filton(d) => matching(d, b.header, b.payload),
+        _ => 0,
     }
 }
 
@@ -71,9 +66,7 @@ pub fn hits(d: Device, b: Brought) -> u8
 fn over_latest(q: Fifo) -> Arrival
     ensures { result ≡ over_latest q }
 {
-    let m = fifo::latest(q);
-    let bytes = m.bytes;
-    let lost = frame::header_in(bytes);
+    let lost = frame::header_in(fifo::latest(q).bytes);
     Arrival::QueuedOver(lost.id, lost.extended)
 }
 
@@ -83,29 +76,20 @@ fn over_latest(q: Fifo) -> Arrival
 pub fn filters_and_room(d: Device, hits: u8) -> Arrival
     ensures { result ≡ filters_and_room d hits }
 {
-    let stranger = chip::filton(d) & (hits == 0);
-    let full = fifo::full(d.rx);
-    if stranger {
-        return Arrival::A4;
+    if chip::filton(d) & (hits == 0) {
+        Arrival::A4
+    } else if fifo::full(d.rx) {
+        over_latest(d.rx)
+    } else {
+        Arrival::Queued
     }
-    if full {
-        return over_latest(d.rx);
-    }
-    Arrival::Queued
 }
 
 #[tactic(auto, using(base::specs::Pick::picks, base::specs::Pick::judges), unfolding(crate::specs::Receive::is_queued))]
 fn is_queued(a: Arrival) -> bool
     ensures { result ≡ is_queued a }
 {
-    match a {
-        Arrival::Queued => true,
-        Arrival::QueuedOver(_, _) => true,
-        Arrival::A1 => false,
-        Arrival::A2 => false,
-        Arrival::A3 => false,
-        Arrival::A4 => false,
-    }
+    matches!(a, Arrival::Queued | Arrival::QueuedOver(_, _))
 }
 
 // Whether a good frame reaches the temporary buffer, and so gets an arrival number.
@@ -113,14 +97,7 @@ fn is_queued(a: Arrival) -> bool
 pub fn reaches_temporary(what: Arrival) -> bool
     ensures { result ≡ reaches_temporary what }
 {
-    match what {
-        Arrival::Queued => true,
-        Arrival::QueuedOver(_, _) => true,
-        Arrival::A1 => false,
-        Arrival::A2 => false,
-        Arrival::A3 => false,
-        Arrival::A4 => true,
-    }
+    !matches!(what, Arrival::A1 | Arrival::A2 | Arrival::A3)
 }
 
 #[tactic(auto, using(base::specs::Pick::picks, base::specs::Pick::judges), unfolding(crate::specs::Receive::queued_flag))]
@@ -135,9 +112,9 @@ fn queued_flag(queued: bool) -> u8
 fn filter_flag(hits: u8) -> u8
     ensures { result ≡ filter_flag hits }
 {
-    if hits % 2 == 1 {
+    if base::is_set(0, hits) {
         flags::F0MESS
-    } else if (hits >> 1) % 2 == 1 {
+    } else if base::is_set(1, hits) {
         flags::F1MESS
     } else {
         0
@@ -156,20 +133,19 @@ fn queue_after(q: Fifo, m: Message, queued: bool) -> Fifo
 fn next_serial(last: u64) -> u64
     ensures { result ≡ next_serial last }
 {
-    if last == u64::MAX { last } else { last + 1 }
+    last.saturating_add(1)
 }
 
 // The arrival numbers with one more: the frame's own, in the temporary buffer and, if it is queued, at its place in the
 // FIFO.
-#[tactic(auto, using(base::specs::Pick::picks), unfolding(crate::specs::Receive::serials_after))]
+#[tactic(auto, using(base::specs::Pick::picks, fifo::proofs::Waiting::over_below), unfolding(crate::specs::Receive::serials_after))]
 fn serials_after(s: Serials, q: Fifo, queued: bool) -> Serials
     ensures { result ≡ serials_after s q queued }
 {
     let serial = next_serial(s.last);
     let mut places = s.places;
     if queued {
-        let place = fifo::place_over(q);
-        places[place] = serial;
+        places[fifo::place_over(q)] = serial;
     }
     Serials {
         last: serial,
@@ -180,19 +156,18 @@ fn serials_after(s: Serials, q: Fifo, queued: bool) -> Serials
 
 // The message in the transmit buffer, which comes back in loopback alone.
 #[tactic(auto, unfolding(crate::specs::Receive::own_frame))]
-pub fn own_frame(d: Device) -> Brought
+pub fn own_frame(d: Device) -> Option<Brought>
     ensures { result ≡ own_frame d }
 {
-    let m = d.buffer;
-    let bytes = m.bytes;
-    let header = frame::header_in(bytes);
-    let payload = frame::data_in(bytes);
-    Brought {
-        comes: d.acting == LOOPBACK,
-        own: true,
-        acknowledged: true,
-        header,
-        payload,
+    if d.acting == LOOPBACK {
+        Some(Brought {
+            own: true,
+            acknowledged: true,
+            header: frame::header_in(d.buffer.bytes),
+            payload: frame::data_in(d.buffer.bytes),
+        })
+    } else {
+        None
     }
 }
 
@@ -202,17 +177,14 @@ pub fn arrived(d: Device, b: Brought, hits: u8, what: Arrival) -> Device
     ensures { result ≡ arrived d b hits what }
 {
     let queued = is_queued(what);
-    let payload = b.payload;
-    let bytes = frame::received(b.header, payload, d.time, filter::filhit(hits));
-    let m = Message { bytes };
-    let waiting = d.rx;
-    let rx = queue_after(waiting, m, queued);
-    let serials = serials_after(d.serials, waiting, queued);
+    let m = Message {
+        bytes: frame::received(b.header, b.payload, d.time, filter::filhit(hits)),
+    };
     let mut e = d;
     e.regs.hits = hits;
     e.temp = m;
-    e.rx = rx;
-    e.serials = serials;
+    e.rx = queue_after(d.rx, m, queued);
+    e.serials = serials_after(d.serials, d.rx, queued);
     let f = flags::raised(e, flags::RXTMP);
     let g = flags::raised(f, queued_flag(queued));
     flags::raised(g, filter_flag(hits))

@@ -1,6 +1,6 @@
--- The numbers 1 to 7 (01, Numbers given back): "Checks run in rising order; the first that applies is given, and none
+-- The refusals 1 to 7 (01, Numbers given back): "Checks run in rising order; the first that applies is given, and none
 -- otherwise."
-use Rattle.std.specs.Prelude.{Bool, true, false, not, ◌&&◌, List, [], ◌∷◌, ℕ, ◌+◌, eqb, leb, ltb, length, drop}
+use Rattle.std.specs.Prelude.{Bool, true, false, not, ◌&&◌, List, [], ◌∷◌, ℕ, ◌+◌, eqb, leb, ltb, length, drop, Option, Some, None, Result, Ok, Err}
 use Rattle.base.specs.Bit.{byte}
 use Rattle.base.specs.Pick.{pick, among}
 use Rattle.fifo.specs.Queue.{eight_wait, none_waits}
@@ -8,14 +8,12 @@ use Rattle.to_send.specs.ToSend.{right_length}
 use Rattle.chip.specs.declared.Device.{Device}
 use Rattle.chip.specs.Proper.{proper}
 use Rattle.chip.specs.State.{initialization}
-use Rattle.commands.specs.declared.Found.{Found}
-use Rattle.commands.specs.declared.Found.TheVariants.{At, Nothing}
 use Rattle.commands.specs.declared.Row.{Row}
 use Rattle.commands.specs.Table.{rows, lookup}
 use Rattle.commands.specs.Verbs.{read_message_with_time, read_message, read_data_with_time, read_data, read_history}
 use Rattle.commands.specs.Verbs.{write_message, write_btr0, write_btr1, write_filter, write_mask}
-use Rattle.refused.specs.declared.Verdict.{Verdict}
-use Rattle.refused.specs.declared.Verdict.TheVariants.{Refused, Accepted}
+use Rattle.refusal.specs.declared.Refusal.{Refusal}
+use Rattle.refusal.specs.declared.Refusal.TheVariants.{OutOfRange, NoCommand, WrongLength, ShortBuffer, OutsideSetUp, FindsFull, FindsNone}
 
 -- 3: "its length is not the command's": the command byte and what the row says comes after it; 0x12 by its message
 unfoldable pub length_fits : Row → List ℕ → Bool
@@ -44,28 +42,25 @@ finds_none waiting entries v =
     pick (reads_message v) (none_waits waiting)
     (pick (eqb v read_history) (none_waits entries) false)
 
--- 3 to 7 for a command in the table, and 0 where none applies; 4: "the lent reply buffer is shorter than the reply"
-unfoldable pub refusal : Device → Row → List ℕ → ℕ → ℕ
-refusal d r bytes lent =
-    pick (not (length_fits r bytes)) 3
-    (pick (ltb lent r.out) 4
-    (pick (outside_set_up d.acting r.verb) 5
-    (pick (finds_full d.tx.count r.verb) 6
-    (pick (finds_none d.rx.count d.history.count r.verb) 7
-    0))))
+-- 3 to 7 for a command in the table; 4: "the lent reply buffer is shorter than the reply"
+unfoldable pub row_judged : Device → Row → List ℕ → ℕ → Result Row Refusal
+row_judged d r bytes lent =
+    pick (not (length_fits r bytes)) (Err WrongLength)
+    (pick (ltb lent r.out) (Err ShortBuffer)
+    (pick (outside_set_up d.acting r.verb) (Err OutsideSetUp)
+    (pick (finds_full d.tx.count r.verb) (Err FindsFull)
+    (pick (finds_none d.rx.count d.history.count r.verb) (Err FindsNone)
+    (Ok r)))))
 
 -- 2: "the command byte is not in 000's Table 1, or is a factory command"
-unfoldable pub row_judged : Device → Found → List ℕ → ℕ → Verdict
-row_judged d Nothing bytes lent = Refused 2
-row_judged d (At r) bytes lent =
-    pick (eqb (refusal d r bytes lent) 0)
-    (Accepted r)
-    (Refused (refusal d r bytes lent))
+abbrev pub found_judged : Device → Option Row → List ℕ → ℕ → Result Row Refusal
+found_judged d None bytes lent = Err NoCommand
+found_judged d (Some r) bytes lent = row_judged d r bytes lent
 
 -- 1: "the state handed in has a count, place or field outside its range"; an empty transfer has no command byte to
 -- judge, so it is 3
-unfoldable pub verdict : Device → List ℕ → ℕ → Verdict
+unfoldable pub verdict : Device → List ℕ → ℕ → Result Row Refusal
 verdict d bytes lent =
     pick (proper d)
-    (pick (eqb (length bytes) 0) (Refused 3) (row_judged d (lookup rows (byte bytes 1)) bytes lent))
-    (Refused 1)
+    (pick (eqb (length bytes) 0) (Err WrongLength) (found_judged d (lookup rows (byte bytes 1)) bytes lent))
+    (Err OutOfRange)

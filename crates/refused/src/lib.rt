@@ -3,33 +3,25 @@
 
 ghost use Rattle.std.specs.Prelude.{◌≡◌};
 ghost use Rattle.refused.specs.Refused.{length_fits, sets_up, outside_set_up, finds_full, reads_message, finds_none};
-ghost use Rattle.refused.specs.Refused.{refusal, row_judged, verdict};
+ghost use Rattle.refused.specs.Refused.{row_judged, verdict};
 
 use chip::{Device, INITIALIZATION};
-use commands::{Found, Row, verb};
-
-#[derive(Clone, Copy)]
-pub enum Verdict {
-    Refused(u8),
-    Accepted(Row),
-}
+use commands::{Row, verb};
+use refusal::Refusal;
 
 // 3: the transfer's length, with its command byte, is the command's.
 #[tactic(auto, using(base::specs::Pick::picks, base::specs::Pick::judges), unfolding(crate::specs::Refused::length_fits))]
 fn length_fits(r: Row, bytes: &[u8]) -> bool
     ensures { result ≡ length_fits r bytes.now }
 {
-    let v = r.verb;
-    let least = r.least as usize;
-    let most = r.most as usize;
     let given = bytes.len();
-    if given < least + 1 {
+    if given < r.least as usize + 1 {
         return false;
     }
-    if most + 1 < given {
+    if r.most as usize + 1 < given {
         return false;
     }
-    if v == verb::WRITE_MESSAGE {
+    if r.verb == verb::WRITE_MESSAGE {
         return to_send::right_length(&bytes[1..]);
     }
     true
@@ -39,13 +31,10 @@ fn length_fits(r: Row, bytes: &[u8]) -> bool
 fn sets_up(v: u8) -> bool
     ensures { result ≡ sets_up v }
 {
-    match v {
-        verb::WRITE_BTR0 => true,
-        verb::WRITE_BTR1 => true,
-        verb::WRITE_FILTER => true,
-        verb::WRITE_MASK => true,
-        _ => false,
-    }
+    matches!(
+        v,
+        verb::WRITE_BTR0 | verb::WRITE_BTR1 | verb::WRITE_FILTER | verb::WRITE_MASK
+    )
 }
 
 // 5: a filter, mask or bit-timing write outside initialization mode.
@@ -68,13 +57,13 @@ fn finds_full(waiting: u8, v: u8) -> bool
 fn reads_message(v: u8) -> bool
     ensures { result ≡ reads_message v }
 {
-    match v {
-        verb::READ_MESSAGE_WITH_TIME => true,
-        verb::READ_MESSAGE => true,
-        verb::READ_DATA_WITH_TIME => true,
-        verb::READ_DATA => true,
-        _ => false,
-    }
+    matches!(
+        v,
+        verb::READ_MESSAGE_WITH_TIME
+            | verb::READ_MESSAGE
+            | verb::READ_DATA_WITH_TIME
+            | verb::READ_DATA
+    )
 }
 
 // 7: a receive FIFO or history read finds none.
@@ -91,62 +80,38 @@ fn finds_none(waiting: u8, entries: u8, v: u8) -> bool
     }
 }
 
-// The first number that applies to a command in the table, or 0.
-#[tactic(auto, using(base::specs::Pick::picks, base::specs::Pick::judges), unfolding(crate::specs::Refused::refusal))]
-fn refusal(d: Device, r: Row, bytes: &[u8], lent: usize) -> u8
-    ensures { result ≡ refusal d r bytes.now lent }
+// The first number that applies to a command in the table.
+#[tactic(auto, using(base::specs::Pick::picks, base::specs::Pick::judges), unfolding(crate::specs::Refused::row_judged))]
+fn row_judged(d: Device, r: Row, bytes: &[u8], lent: usize) -> Result<Row, Refusal>
+    ensures { result ≡ row_judged d r bytes.now lent }
 {
-    let v = r.verb;
-    let fits = length_fits(r, bytes);
-    let short = lent < r.out as usize;
-    let outside = outside_set_up(d.acting, v);
-    let full = finds_full(d.tx.count, v);
-    let none = finds_none(d.rx.count, d.history.count, v);
-    if !fits {
-        return 3;
+    if !length_fits(r, bytes) {
+        return Err(Refusal::WrongLength);
     }
-    if short {
-        return 4;
+    if lent < r.out as usize {
+        return Err(Refusal::ShortBuffer);
     }
-    if outside {
-        return 5;
+    if outside_set_up(d.acting, r.verb) {
+        return Err(Refusal::OutsideSetUp);
     }
-    if full {
-        return 6;
+    if finds_full(d.tx.count, r.verb) {
+        return Err(Refusal::FindsFull);
     }
-    if none {
-        return 7;
+    if finds_none(d.rx.count, d.history.count, r.verb) {
+        return Err(Refusal::FindsNone);
     }
-    0
+    Ok(r)
 }
 
-#[tactic(auto, using(base::specs::Pick::picks), unfolding(crate::specs::Refused::row_judged))]
-fn row_judged(d: Device, found: Found, bytes: &[u8], lent: usize) -> Verdict
-    ensures { result ≡ row_judged d found bytes.now lent }
-{
-    match found {
-        Found::Nothing => Verdict::Refused(2),
-        Found::At(row) => {
-            let number = refusal(d, row, bytes, lent);
-            if number == 0 {
-                Verdict::Accepted(row)
-            } else {
-                Verdict::Refused(number)
-            }
-        }
-    }
-}
-
+// The command's row, or the first number that applies.
 #[tactic(auto, using(base::specs::Pick::picks, base::specs::Pick::judges), unfolding(crate::specs::Refused::verdict))]
-pub fn judge(d: Device, bytes: &[u8], lent: usize) -> Verdict
+pub fn judge(d: Device, bytes: &[u8], lent: usize) -> Result<Row, Refusal>
     ensures { result ≡ verdict d bytes.now lent }
 {
-    if chip::proper(d) {
-        if bytes.len() == 0 {
-            return Verdict::Refused(3);
-        }
-        let found = commands::find(base::at(bytes, 0));
-        return row_judged(d, found, bytes, lent);
+    if !chip::proper(d) {
+        return Err(Refusal::OutOfRange);
     }
-    Verdict::Refused(1)
+    let &command = bytes.first().ok_or(Refusal::WrongLength)?;
+    let row = commands::find(command).ok_or(Refusal::NoCommand)?;
+    row_judged(d, row, bytes, lent)
 }

@@ -1,80 +1,31 @@
 // What a command shows: sixteen bytes, of which the reply is the first few.
 #![tactic(auto)]
 
-ghost use Rattle.std.specs.Prelude.{◌≡◌, [], ◌∷◌, ◌≤◌};
-ghost use Rattle.base.specs.Bit.{time_bytes};
+ghost use Rattle.std.specs.Prelude.{◌≡◌, ◌≤◌};
 ghost use Rattle.shown.specs.Shown.{padded, cut, register, shows};
 
-use chip::{Device, Pattern};
+use chip::Device;
 use commands::verb;
 use fifo::Message;
 
-// A message's bytes from a place on.
-#[tactic(auto, unfolding(crate::specs::Shown::cut))]
-fn tail(m: Message, from: usize) -> [u8; 16]
-    requires { from ≤ 16 }
-    ensures { result ≡ cut m 0 from }
+// Sixteen bytes that begin with these.
+fn padded(bytes: &[u8]) -> [u8; 16]
+    ensures { result ≡ padded bytes.now }
 {
-    let b = m.bytes;
-    let mut s = [0u8; 16];
-    base::put(&b[from..], &mut s);
+    let mut s = [0; 16];
+    base::put(bytes, &mut s);
     s
 }
 
-// Bytes 1 and 4 to 16. Here and below the tail begins early, by the bytes that are then written over its start.
+// A message's first bytes, then those that follow a place. These begin early at first, by the bytes that are then
+// written over their start.
 #[tactic(auto, unfolding(crate::specs::Shown::cut))]
-fn without_time(m: Message) -> [u8; 16]
-    ensures { result ≡ cut m 1 3 }
+fn cut(m: Message, first: usize, from: usize) -> [u8; 16]
+    requires { (first ≤ from) × (from ≤ 16) }
+    ensures { result ≡ cut m first from }
 {
-    let b = m.bytes;
-    let mut s = tail(m, 2);
-    s[0] = b[0];
-    s
-}
-
-// Bytes 1 and 9 to 16.
-#[tactic(auto, unfolding(crate::specs::Shown::cut))]
-fn data_only(m: Message) -> [u8; 16]
-    ensures { result ≡ cut m 1 8 }
-{
-    let b = m.bytes;
-    let mut s = tail(m, 7);
-    s[0] = b[0];
-    s
-}
-
-// Bytes 1 to 3 and 9 to 16.
-#[tactic(auto, unfolding(crate::specs::Shown::cut))]
-fn data_with_time(m: Message) -> [u8; 16]
-    ensures { result ≡ cut m 3 8 }
-{
-    let b = m.bytes;
-    let mut s = tail(m, 5);
-    s[0] = b[0];
-    s[1] = b[1];
-    s[2] = b[2];
-    s
-}
-
-// Bytes 1 to 3.
-#[tactic(auto, unfolding(crate::specs::Shown::cut))]
-fn tag_and_time(m: Message) -> [u8; 16]
-    ensures { result ≡ cut m 3 16 }
-{
-    let b = m.bytes;
-    let mut s = tail(m, 13);
-    s[0] = b[0];
-    s[1] = b[1];
-    s[2] = b[2];
-    s
-}
-
-fn six(p: Pattern) -> [u8; 16]
-    ensures { result ≡ padded p.bytes }
-{
-    let b = p.bytes;
-    let mut s = [0u8; 16];
-    base::put(&b, &mut s);
+    let mut s = padded(&m.bytes[from - first..]);
+    s[..first].copy_from_slice(&m.bytes[..first]);
     s
 }
 
@@ -103,40 +54,25 @@ fn register(d: Device, v: u8) -> u8
     }
 }
 
-fn two(a: u8, b: u8) -> [u8; 16]
-    ensures { result ≡ padded (a ∷ b ∷ []) }
-{
-    [a, b, 0, 0, 0, 0, 0, 0, 0, 0, 0, 0, 0, 0, 0, 0]
-}
-
-fn time_tag(time: u16) -> [u8; 16]
-    ensures { result ≡ padded (time_bytes time) }
-{
-    two((time / 256) as u8, (time % 256) as u8)
-}
-
 #[tactic(auto, using(base::specs::Pick::picks, base::specs::Pick::judges), unfolding(crate::specs::Shown::shows))]
 pub fn shows(d: Device, v: u8, k: u8) -> [u8; 16]
     ensures { result ≡ shows d v k }
 {
-    let temp = d.temp;
+    // Indexed as copies, so that the whole device is none.
     let filters = d.filters;
     let masks = d.masks;
-    let rx = d.rx;
-    let history = d.history;
-    let time = d.time;
-    let place = (k % 8) as usize;
+    let place = usize::from(k % 8);
     match v {
-        verb::READ_TEMPORARY_WITH_TIME => tail(temp, 1),
-        verb::READ_TEMPORARY => tail(temp, 3),
-        verb::READ_MESSAGE_WITH_TIME => tail(fifo::next(rx), 0),
-        verb::READ_MESSAGE => without_time(fifo::next(rx)),
-        verb::READ_DATA_WITH_TIME => data_with_time(fifo::next(rx)),
-        verb::READ_DATA => data_only(fifo::next(rx)),
-        verb::READ_FILTER => six(filters[place]),
-        verb::READ_MASK => six(masks[place]),
-        verb::READ_HISTORY => tag_and_time(fifo::next(history)),
-        verb::READ_TIME => time_tag(time),
-        _ => two(register(d, v), 0),
+        verb::READ_TEMPORARY_WITH_TIME => cut(d.temp, 0, 1),
+        verb::READ_TEMPORARY => cut(d.temp, 0, 3),
+        verb::READ_MESSAGE_WITH_TIME => cut(fifo::next(d.rx), 0, 0),
+        verb::READ_MESSAGE => cut(fifo::next(d.rx), 1, 3),
+        verb::READ_DATA_WITH_TIME => cut(fifo::next(d.rx), 3, 8),
+        verb::READ_DATA => cut(fifo::next(d.rx), 1, 8),
+        verb::READ_FILTER => padded(&filters[place].bytes),
+        verb::READ_MASK => padded(&masks[place].bytes),
+        verb::READ_HISTORY => cut(fifo::next(d.history), 3, 16),
+        verb::READ_TIME => padded(&d.time.to_be_bytes()),
+        _ => padded(&[register(d, v)]),
     }
 }

@@ -7,12 +7,15 @@ use Prim.Native.Nat.{ℕ, ◌+◌, ◌*◌, ◌/◌, ◌%◌, ◌≤◌}
 use native.Mathlib.Omega.{arith}
 use lib.Dec.{eqb, leb}
 use lib.ListN.{length, replicate, length-append}
+use Rattle.std.specs.Prelude.{Result}
 use Rattle.base.specs.Bit.{is_set, byte}
 use Rattle.base.specs.Pick.{flag}
 use Rattle.base.proofs.Booleans.{flag_le, flag_back}
 use Rattle.counters.specs.declared.Counters.{Counters}
 use Rattle.chip.specs.declared.Device.{Device}
 use Rattle.chip.specs.State.{fresh, normal}
+use Rattle.refusal.specs.declared.Refusal.{Refusal}
+use Rattle.refusal.specs.Refusal.{number_of}
 use Rattle.host.specs.Transfer.{reply_after}
 use Rattle.promise.specs.Sequence.{Input, spi, Given, replied, answered, shipped as step}
 use Rattle.promise.specs.Commands.{is_command, lengths_of, sets_up, transfer_fits}
@@ -32,7 +35,7 @@ use Rattle.terminal.specs.Terminal.{asked, reply, status_of, Listens, Reached}
 
 -- the lent buffer, of what a transfer gave
 abbrev left_in : Given → List ℕ
-left_in (replied n buffer) = buffer
+left_in (replied answer buffer) = buffer
 left_in (answered a) = []
 
 -- one input more
@@ -77,14 +80,15 @@ module _ {d : Device} (h : Reached d) where
   -- ---- a transfer that the records let pass
 
   module _ (bytes buffer : List ℕ) (passes : number_due (situation_of (book h)) (spi bytes buffer) ≡ 0) where
-    given_is : (step d (spi bytes buffer)).given ≡ replied 0 (filled (shown (book h) (byte bytes 1)) buffer)
-    given_is = given_due (spi bytes buffer) ∙ rw passes
+    given_is : (answer : Result (Unit {0}) Refusal) × (number_of answer ≡ 0)
+        × ((step d (spi bytes buffer)).given ≡ replied answer (filled (shown (book h) (byte bytes 1)) buffer))
+    given_is = let due_now = given_due (spi bytes buffer) in (due_now.0, due_now.1 ∙ passes, due_now.2 ∙ rw passes)
 
     pub replies : reply_after d bytes buffer ≡ filled (shown (book h) (byte bytes 1)) buffer
-    replies = ap left_in given_is
+    replies = ap left_in given_is.2
 
     pub book_after : book (further h (spi bytes buffer)) ≡ commanded (book h) bytes
-    book_after = book_more (spi bytes buffer) ∙ ap (noted by_the_rules (book h) (spi bytes buffer)) given_is
+    book_after = book_more (spi bytes buffer) ∙ ap (noted by_the_rules (book h) (spi bytes buffer)) given_is.2 ∙ rw given_is.1
 
 -- ---- a device that listens
 

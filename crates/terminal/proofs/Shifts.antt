@@ -1,12 +1,13 @@
 -- A shift: what holds after each scan, and what it comes to. Assumes nothing.
 use mathlib.Core.Path.{◌≡◌, refl, sym, ◌∙◌, ap}
 use mathlib.Core.Bool.{false}
-use mathlib.Core.List.{List, ◌++◌, map}
-use Prim.Native.Nat.{ℕ, ◌+◌, ◌-◌, ◌*◌, ◌^◌, ◌<◌, ◌≤◌}
+use mathlib.Core.List.{List, [], ◌++◌, map, append_assoc, append-nil}
+use Prim.Native.Nat.{ℕ, ◌+◌, ◌-◌, ◌*◌, ◌/◌, ◌^◌, ◌<◌, ◌≤◌}
 use native.Mathlib.Omega.{arith}
 use borrow.Author.Tests.{eqb-true, not-false}
-use lib.ListN.{length, take, drop, length-drop}
-use lib.Seq.{take-add, length-take-le}
+use borrow.Rule.Slice.PartMut.{put_mid, post_of, same_len_mid}
+use lib.ListN.{length, take, drop, length-append, length-drop}
+use lib.Seq.{take_at, length-take-le, take-append-add, take-append-le}
 use Rattle.chip.specs.declared.Device.{Device}
 use Rattle.bus.specs.Pins.{pins}
 use Rattle.promise.specs.Frames.{message}
@@ -18,12 +19,12 @@ use Rattle.terminal.proofs.Coming.{scan_listens, scan_count, scan_last, scan_wak
 use Rattle.terminal.proofs.Serving.{bring_serves, all_printed}
 
 -- INT is low, so nothing waits
-pub asleep : (d : Device) → Reached d → Listens d → Wakes d → (pins d).int ≡ false → (page : List ℕ) (at : ℕ)
-    → Served d at page (record { device = d; used = at }) page
-asleep d reached listens wakes low page at =
+pub asleep : (d : Device) → Reached d → Listens d → Wakes d → (pins d).int ≡ false → (page : List ℕ)
+    → Served d page (record { device = d; used = 0 }) page
+asleep d reached listens wakes low page =
     let none : d.rx.count ≡ 0 = eqb-true d.rx.count 0 (not-false _ (sym (int_is reached listens wakes) ∙ low)) in
     record {
-      serves = λ arrived s. s;
+      serves = λ arrived printed s. rw append-nil s;
       used = omega (arith, none);
       size = refl;
       listens = listens;
@@ -32,23 +33,27 @@ asleep d reached listens wakes low page at =
       last = refl;
     }
 
--- i scans have come, of which no more than `most` wait, and the others are on the page
-pub record Shifting (scans page₀ : List ℕ) (n most : ℕ) (page : List ℕ) (d : Device) (used i : ℕ) : Type 0 where
-  pub serves : Serves d (take (i * 8) scans) (take used page)
+-- k scans have come and the rest is still to, no more than `most` wait, and the others are on the page
+pub record Shifting (scans page₀ : List ℕ) (most : ℕ) (page : List ℕ) (d : Device) (used k : ℕ) (rest : List ℕ) : Type 0 where
+  pub came : List ℕ
+  pub whole : came ++ rest ≡ scans
+  pub long : length came ≡ k * 8
+  pub serves : Serves d came (take used page)
   pub listens : Listens d
   pub wakes : Wakes d
   pub few : d.rx.count ≤ most
-  pub printed : used + 8 * d.rx.count ≡ i * 8
+  pub printed : used + 8 * d.rx.count ≡ k * 8
   pub size : length page ≡ length page₀
-  pub within : i ≤ n
-  pub enough : n * 8 ≤ length scans
   pub fits : length scans ≤ length page₀
   -- each scan that came got a number, and there is one left for each that comes
-  pub numbered : d.serials.last ≡ i
+  pub numbered : d.serials.last ≡ k
   pub few_enough : length scans < 2 ^ 64
 
-pub begun : (scans page : List ℕ) (n : ℕ) → n * 8 ≤ length scans → length scans ≤ length page → length scans < 2 ^ 64 → Shifting scans page n 0 page switched_on 0 0
-begun scans page n enough fits few_enough = record {
+pub begun : (scans page : List ℕ) → length scans ≤ length page → length scans < 2 ^ 64 → Shifting scans page 0 page switched_on 0 0 scans
+begun scans page fits few_enough = record {
+  came = [];
+  whole = refl;
+  long = refl;
   serves = record {
     reached = on;
     stand = ap (λ (r : Records). scans_in (map message (kept r.ledger))) on_book;
@@ -59,72 +64,80 @@ begun scans page n enough fits few_enough = record {
   few = omega (arith, on_count);
   printed = omega (arith, on_count);
   size = refl;
-  within = omega arith;
-  enough = enough;
   fits = fits;
   numbered = on_last;
   few_enough = few_enough;
 }
 
-module _ (scans page₀ : List ℕ) (n most : ℕ) (page : List ℕ) (d : Device) (used i : ℕ) (h : Shifting scans page₀ n most page d used i) where
-  -- the next scan, where there is one
-  module _ (more : i < n) where
-    abbrev scan : List ℕ
-    scan = take (i * 8 + 8 - i * 8) (drop (i * 8) scans)
+module _ (scans page₀ : List ℕ) (most : ℕ) (page : List ℕ) (d : Device) (used k : ℕ) (rest : List ℕ) (h : Shifting scans page₀ most page d used k rest) where
+  total : k * 8 + length rest ≡ length scans
+  total = omega (arith, h.long, length-append h.came rest, ap length h.whole)
 
-    pub scan_eight : length (take (i * 8 + 8 - i * 8) (drop (i * 8) scans)) ≡ 8
-    scan_eight = length-take-le (i * 8 + 8 - i * 8) (drop (i * 8) scans) (rw (length-drop (i * 8) scans) (omega (arith, h.enough))) ∙ omega arith
+  -- the next scan comes
+  pub scanned : (scan later : List ℕ) → rest ≡ scan ++ later → length scan ≡ 8 → most < 8
+      → Shifting scans page₀ (most + 1) page (brought d scan) used (k + 1) later
+  scanned scan later next eight room =
+      let reached = h.serves.reached in
+      let few : d.rx.count < 8 = omega (arith, h.few) in
+      let left : d.serials.last < 2 ^ 64 - 1 = omega (arith, h.numbered, total, ap length next, length-append scan later, h.few_enough) in
+      let one_more = scan_count reached h.listens few left scan in
+      record {
+        came = h.came ++ scan;
+        whole = append_assoc h.came scan later ∙ ap (λ (l : List ℕ). h.came ++ l) (sym next) ∙ h.whole;
+        long = length-append h.came scan ∙ omega (arith, h.long);
+        serves = bring_serves h.serves h.listens few left scan eight;
+        listens = scan_listens reached h.listens few left scan;
+        wakes = scan_wakes reached h.listens few left scan h.wakes;
+        few = omega (arith, one_more, h.few);
+        printed = omega (arith, one_more, h.printed);
+        size = h.size;
+        fits = h.fits;
+        numbered = scan_last reached h.listens few left scan ∙ ap (λ n. n + 1) h.numbered;
+        few_enough = h.few_enough;
+      }
 
-    come : take (i * 8) scans ++ scan ≡ take ((i + 1) * 8) scans
-    come =
-        let next : i * 8 + (i * 8 + 8 - i * 8) ≡ (i + 1) * 8 = omega arith in
-        sym (take-add (i * 8) (i * 8 + 8 - i * 8) scans) ∙ ap (λ (k : ℕ). take k scans) next
+  -- the rest of the page has room for all that waits
+  enough : used + 8 * d.rx.count ≤ length page
+  enough = omega (arith, h.printed, h.size, total, h.fits)
 
-    pub scanned : most < 8 → Shifting scans page₀ n (most + 1) page (brought d scan) used (i + 1)
-    scanned room =
-        let reached = h.serves.reached in
-        let few : d.rx.count < 8 = omega (arith, h.few) in
-        let left : d.serials.last < 2 ^ 64 - 1 = omega (arith, h.numbered, h.enough, h.few_enough) in
-        let one_more = scan_count reached h.listens few left scan in
-        record {
-          serves = rw (← come) (bring_serves h.serves h.listens few left scan scan_eight);
-          listens = scan_listens reached h.listens few left scan;
-          wakes = scan_wakes reached h.listens few left scan h.wakes;
-          few = omega (arith, one_more, h.few);
-          printed = omega (arith, one_more, h.printed);
-          size = h.size;
-          within = omega arith;
-          enough = h.enough;
-          fits = h.fits;
-          numbered = scan_last reached h.listens few left scan ∙ ap (λ k. k + 1) h.numbered;
-          few_enough = h.few_enough;
-        }
+  abbrev left : ℕ
+  left = length page - used
 
-  -- the page has room for all that waits
-  roomy : used + 8 * d.rx.count ≤ length page
-  roomy = omega (arith, h.printed, h.size, h.within, h.enough, h.fits)
+  pub roomy : 8 * d.rx.count ≤ length (take left (drop used page))
+  roomy = rw (length-take-le left (drop used page) (omega (arith, length-drop used page))) (omega (arith, enough))
 
-  pub ready : Reached d × (Listens d × (Wakes d × (used + 8 * d.rx.count ≤ length page)))
-  ready = (h.serves.reached, (h.listens, (h.wakes, roomy)))
+  module _ (t : Turn) (line : List ℕ) (served : Served d (take left (drop used page)) t line) where
+    abbrev after : List ℕ
+    after = put_mid used left page line
 
-  module _ (t : Turn) (after : List ℕ) (served : Served d used page t after) where
-    pub looked : (m : ℕ) → Shifting scans page₀ n m after t.device t.used i
+    printed : take (used + t.used) after ≡ take used page ++ take t.used line
+    printed =
+        let behind : length (take used page) ≡ used = length-take-le used page (omega (arith, enough)) in
+        ap (λ n. take (n + t.used) after) (sym behind)
+        ∙ take-append-add (take used page) (line ++ post_of used left page) t.used
+        ∙ ap (λ (l : List ℕ). take used page ++ l) (take-append-le t.used line (post_of used left page) (omega (arith, served.used, served.size, roomy)))
+
+    pub looked : (m : ℕ) → Shifting scans page₀ m after t.device (used + t.used) k rest
     looked m = record {
-      serves = served.serves _ h.serves;
+      came = h.came;
+      whole = h.whole;
+      long = h.long;
+      serves = rw printed (served.serves _ _ h.serves);
       listens = served.listens;
       wakes = served.quiet ∙ rw served.none;
       few = omega (arith, served.none);
       printed = omega (arith, served.none, served.used, h.printed);
-      size = served.size ∙ h.size;
-      within = h.within;
-      enough = h.enough;
+      size = same_len_mid used left page line served.size ∙ h.size;
       fits = h.fits;
       numbered = served.last ∙ h.numbered;
       few_enough = h.few_enough;
     }
 
-    -- everything that came is on the page
-    pub finished : i ≡ n → (t.used ≡ n * 8) × (take t.used after ≡ take t.used scans)
-    finished last =
-        let all : t.used ≡ i * 8 = served.used ∙ h.printed in
-        (omega (arith, all), all_printed (served.serves _ h.serves) served.none ∙ rw all)
+    -- no whole scan is left, so everything that came is on the page
+    pub finished : length rest < 8 → (used + t.used ≡ length scans / 8 * 8) × (take (used + t.used) after ≡ take (used + t.used) scans)
+    finished short =
+        let all : used + t.used ≡ length h.came = omega (arith, served.used, h.printed, h.long) in (
+          omega (arith, all, h.long, total),
+          printed ∙ all_printed (served.serves _ _ h.serves) served.none
+              ∙ sym (ap (take (used + t.used)) (sym h.whole) ∙ take_at h.came rest (used + t.used) (sym all)),
+        )

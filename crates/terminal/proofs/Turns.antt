@@ -1,7 +1,7 @@
 -- The terminal's loop: what holds while it reads what waits. Assumes nothing.
 use mathlib.Core.Path.{◌≡◌, refl, sym, ◌∙◌, ap}
 use mathlib.Core.Bool.{true, false, not}
-use mathlib.Core.List.{List, ◌++◌, append_assoc}
+use mathlib.Core.List.{List, ◌++◌, append_assoc, append-nil}
 use Prim.Native.Nat.{ℕ, ◌+◌, ◌-◌, ◌*◌, ◌<◌, ◌≤◌}
 use native.Mathlib.Omega.{arith}
 use borrow.Author.Tests.{eqb-true, eqb-false, not-true, not-false}
@@ -17,21 +17,21 @@ use Rattle.terminal.proofs.Doing.{ask_status, status_listens, status_quiet, stat
 use Rattle.terminal.proofs.Doing.{ask_message, message_listens, message_quiet, message_last, message_count}
 use Rattle.terminal.proofs.Serving.{flags_serve, status_serve, read_serves}
 
--- from the status that was read first, with so much of the page used, to now
-pub record Serving (page₀ : List ℕ) (used₀ : ℕ) (s₀ : Status) (page : List ℕ) (used : ℕ) (s : Status) : Type 0 where
+-- from the status that was read first to now, with so much of the page used
+pub record Serving (page₀ : List ℕ) (s₀ : Status) (page : List ℕ) (used : ℕ) (s : Status) : Type 0 where
   pub reached : Reached s.device
   pub listens : Listens s.device
   pub told : s.waits ≡ not (eqb s.device.rx.count 0)
   pub quiet : s.device.regs.intf ≡ 0
   pub last : s.device.serials.last ≡ s₀.device.serials.last
-  pub room : used + 8 * s.device.rx.count ≡ used₀ + 8 * s₀.device.rx.count
-  pub fits : used₀ + 8 * s₀.device.rx.count ≤ length page₀
+  pub room : used + 8 * s.device.rx.count ≡ 8 * s₀.device.rx.count
+  pub fits : 8 * s₀.device.rx.count ≤ length page₀
   pub size : length page ≡ length page₀
-  pub serves : (arrived : List ℕ) → Serves s₀.device arrived (take used₀ page₀) → Serves s.device arrived (take used page)
+  pub serves : (arrived printed : List ℕ) → Serves s₀.device arrived printed → Serves s.device arrived (printed ++ take used page)
 
 -- ---- the first status
 
-module _ (d : Device) (reached : Reached d) (listens : Listens d) (page : List ℕ) (at : ℕ) (fits : at + 8 * d.rx.count ≤ length page) where
+module _ (d : Device) (reached : Reached d) (listens : Listens d) (page : List ℕ) (fits : 8 * d.rx.count ≤ length page) where
   abbrev quieted : Device
   quieted = asked d 0xDE 1
 
@@ -44,27 +44,27 @@ module _ (d : Device) (reached : Reached d) (listens : Listens d) (page : List �
   same_count : (status_of quieted).device.rx.count ≡ d.rx.count
   same_count = status_count quietly quiet_listens ∙ flags_count reached listens
 
-  pub begun : Serving page at (status_of quieted) page at (status_of quieted)
+  pub begun : Serving page (status_of quieted) page 0 (status_of quieted)
   begun = record {
     reached = further quietly (ask_status quietly quiet_listens);
     listens = status_listens quietly quiet_listens;
     told = status_told quietly quiet_listens ∙ rw (status_count quietly quiet_listens);
     quiet = status_quiet quietly quiet_listens ∙ flags_quiet reached listens;
     last = refl;
-    room = refl;
+    room = omega arith;
     fits = rw same_count fits;
     size = refl;
-    serves = λ arrived s. s;
+    serves = λ arrived printed s. rw append-nil s;
   }
 
   -- ---- and the last
 
-  pub ended : (after : List ℕ) (used : ℕ) (s : Status) → Serving page at (status_of quieted) after used s → s.waits ≡ false
-      → Served d at page (record { device = s.device; used = used }) after
+  pub ended : (after : List ℕ) (used : ℕ) (s : Status) → Serving page (status_of quieted) after used s → s.waits ≡ false
+      → Served d page (record { device = s.device; used = used }) after
   ended after used s h over =
       let none : s.device.rx.count ≡ 0 = eqb-true s.device.rx.count 0 (not-false _ (sym h.told ∙ over)) in
       record {
-        serves = λ arrived serves. h.serves arrived (status_serve (flags_serve serves listens) quiet_listens);
+        serves = λ arrived printed serves. h.serves arrived printed (status_serve (flags_serve serves listens) quiet_listens);
         used = omega (arith, h.room, same_count);
         size = h.size;
         listens = h.listens;
@@ -75,8 +75,7 @@ module _ (d : Device) (reached : Reached d) (listens : Listens d) (page : List �
 
 -- ---- a message more
 
-module _ (page₀ : List ℕ) (used₀ : ℕ) (s₀ : Status) (page : List ℕ) (used : ℕ) (s : Status)
-    (h : Serving page₀ used₀ s₀ page used s) (more : s.waits ≡ true) where
+module _ (page₀ : List ℕ) (s₀ : Status) (page : List ℕ) (used : ℕ) (s : Status) (h : Serving page₀ s₀ page used s) (more : s.waits ≡ true) where
   abbrev next : Device
   next = asked s.device 0x48 14
 
@@ -110,7 +109,7 @@ module _ (page₀ : List ℕ) (used₀ : ℕ) (s₀ : Status) (page : List ℕ) 
   part_eight = length-take-le (used + 8 - used) (drop used page) (rw (length-drop used page) (omega (arith, enough))) ∙ omega arith
 
   pub again : (line : List ℕ) → length line ≡ 8 → line ≡ scan_read s.device
-      → Serving page₀ used₀ s₀ (put_mid used (used + 8 - used) page line) (used + 8) (status_of next)
+      → Serving page₀ s₀ (put_mid used (used + 8 - used) page line) (used + 8) (status_of next)
   again line eight shows = record {
     reached = further reading (ask_status reading reading_listens);
     listens = status_listens reading reading_listens;
@@ -120,5 +119,7 @@ module _ (page₀ : List ℕ) (used₀ : ℕ) (s₀ : Status) (page : List ℕ) 
     room = omega (arith, one_less, h.room);
     fits = h.fits;
     size = same_len_mid used (used + 8 - used) page line (eight ∙ sym (part_eight)) ∙ h.size;
-    serves = λ arrived begins. rw (printed line eight, shows) (status_serve (read_serves (h.serves arrived begins) h.listens some) reading_listens);
+    serves = λ arrived before begins.
+        rw (printed line eight, shows, ← append_assoc before (take used page) (scan_read s.device))
+        (status_serve (read_serves (h.serves arrived before begins) h.listens some) reading_listens);
   }

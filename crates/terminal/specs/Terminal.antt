@@ -1,5 +1,5 @@
 -- What the terminal's steps are, in the device's own definitions, and what holds of it between them.
-use Rattle.std.specs.Prelude.{◌≡◌, true, false, not, List, [], ◌∷◌, ◌++◌, map, ℕ, ◌+◌, ◌*◌, eqb, length, take, drop, replicate}
+use Rattle.std.specs.Prelude.{◌≡◌, true, false, not, List, [], ◌∷◌, ◌++◌, map, ℕ, ◌*◌, eqb, length, take, drop, replicate}
 use Rattle.base.specs.Bit.{byte, is_set}
 use Rattle.base.specs.Pick.{pick}
 use Rattle.fifo.specs.declared.Message.{Message}
@@ -82,10 +82,10 @@ pub record Serves (d : Device) (arrived printed : List ℕ) : Type 0 where
 abbrev pub Wakes : Device → Type 0
 Wakes d = d.regs.intf ≡ pick (eqb d.rx.count 0) 0 0xC0
 
--- Everything that waited is on the page, behind what stood there, and the device listens for more.
-pub record Served (d : Device) (at : ℕ) (page : List ℕ) (t : Turn) (after : List ℕ) : Type 0 where
-  pub serves : (arrived : List ℕ) → Serves d arrived (take at page) → Serves t.device arrived (take t.used after)
-  pub used : t.used ≡ at + 8 * d.rx.count
+-- Everything that waited is on the page, behind what was printed before, and the device listens for more.
+pub record Served (d : Device) (page : List ℕ) (t : Turn) (after : List ℕ) : Type 0 where
+  pub serves : (arrived printed : List ℕ) → Serves d arrived printed → Serves t.device arrived (printed ++ take t.used after)
+  pub used : t.used ≡ 8 * d.rx.count
   pub size : length after ≡ length page
   pub listens : Listens t.device
   pub none : t.device.rx.count ≡ 0

@@ -50,7 +50,7 @@ struct Status {
     waits: bool,
 }
 
-// The device after the terminal looked at it, and how much of the page is printed.
+// The device after the terminal looked at it, and how much of its page is used.
 #[derive(Clone, Copy)]
 struct Turn {
     device: Device,
@@ -60,9 +60,7 @@ struct Turn {
 fn write(d: Device, command: u8, value: u8) -> Device
     ensures { result ≡ written d command value }
 {
-    let mut none = [0u8; 0];
-    let o = host::transfer(d, &[command, value], &mut none);
-    o.device
+    host::transfer(d, &[command, value], &mut []).device
 }
 
 // INTF, which reading clears: INT falls.
@@ -70,8 +68,7 @@ fn read_flags(d: Device) -> Device
     ensures { result ≡ asked d 0xDE 1 }
 {
     let mut flags = [0u8; 1];
-    let o = host::transfer(d, &[READ_INTF], &mut flags);
-    o.device
+    host::transfer(d, &[READ_INTF], &mut flags).device
 }
 
 // INT at each message that is queued, normal mode, and no flag up from before.
@@ -90,18 +87,16 @@ fn bring(d: Device, scan: &[u8]) -> Device
 {
     let mut payload = [0u8; 8];
     payload.copy_from_slice(scan);
-    let o = bus::event(d, Event::GoodFrame(scanner(), true, 8), payload);
-    o.device
+    bus::event(d, Event::GoodFrame(scanner(), true, 8), payload).device
 }
 
 fn read_status(d: Device) -> Status
     ensures { result ≡ status_of d }
 {
     let mut statf = [0u8; 1];
-    let o = host::transfer(d, &[READ_STATF], &mut statf);
-    let device = o.device;
+    let device = host::transfer(d, &[READ_STATF], &mut statf).device;
     // RXFMTY is bit 1.
-    let waits = statf[0] / 2 % 2 != 1;
+    let waits = !base::is_set(1, statf[0]);
     Status { device, waits }
 }
 
@@ -112,47 +107,46 @@ fn read(d: Device, line: &mut [u8]) -> Device
     ensures line { line.new ≡ scan_read d }
 {
     let mut message = [0u8; 14];
-    let o = host::transfer(d, &[READ_MESSAGE], &mut message);
+    let device = host::transfer(d, &[READ_MESSAGE], &mut message).device;
     line.copy_from_slice(&message[6..]);
-    o.device
+    device
 }
 
 // Everything that waits is read. INTF first, so that a message that comes meanwhile raises INT again.
-fn serve(d: Device, page: &mut [u8], at: usize) -> Turn
+fn serve(d: Device, page: &mut [u8]) -> Turn
     requires reached { Reached d }
     requires listens { Listens d }
-    requires count_in_bounds { at + 8 * d.rx.count ≤ length page.old }
-    ensures { Served d at page.old result page.new }
+    requires count_in_bounds { 8 * d.rx.count ≤ length page.old }
+    ensures { Served d page.old result page.new }
 {
-    let mut used = at;
     let d = read_flags(d);
     let mut s = read_status(d);
+    let mut used = 0;
     while s.waits {
         let past = used + 8;
         let e = read(s.device, &mut page[used..past]);
         used = past;
         s = read_status(e);
     }
-    let device = s.device;
-    Turn { device, used }
+    Turn {
+        device: s.device,
+        used,
+    }
 }
 
 // The terminal sleeps while INT is low.
-fn look(d: Device, page: &mut [u8], at: usize) -> Turn
+fn look(d: Device, page: &mut [u8]) -> Turn
     requires reached { Reached d }
     requires listens { Listens d }
     requires wakes { Wakes d }
-    requires count_in_bounds { at + 8 * d.rx.count ≤ length page.old }
-    ensures { Served d at page.old result page.new }
+    requires count_in_bounds { 8 * d.rx.count ≤ length page.old }
+    ensures { Served d page.old result page.new }
 {
     let pins = bus::pins(d);
     if pins.int {
-        serve(d, page, at)
+        serve(d, page)
     } else {
-        Turn {
-            device: d,
-            used: at,
-        }
+        Turn { device: d, used: 0 }
     }
 }
 
@@ -162,29 +156,17 @@ fn shift(scans: &[u8], page: &mut [u8]) -> usize
     ensures count { result ≡ length scans.now / 8 * 8 }
     ensures printed { take result page.new ≡ take result scans.now }
 {
-    let n = scans.len() / 8;
     let mut d = switched_on();
     let mut used: usize = 0;
-    let mut i: usize = 0;
-    while i < n {
-        let from = i * 8;
-        let past = from + 8;
-        d = bring(d, &scans[from..past]);
-        i += 1;
-        if i % 3 == 0 {
-            let t = look(d, page, used);
+    for (i, scan) in scans.chunks_exact(8).enumerate() {
+        d = bring(d, scan);
+        if (i + 1) % 3 == 0 {
+            let t = look(d, &mut page[used..]);
             d = t.device;
-            used = t.used;
+            used += t.used;
         }
     }
-    let t = look(d, page, used);
-    t.used
-}
-
-fn print(page: &[u8], used: usize) {
-    if used <= page.len() {
-        io::write_all(STDOUT, &page[..used]);
-    }
+    used + look(d, &mut page[used..]).used
 }
 
 fn main() {
@@ -192,5 +174,5 @@ fn main() {
     let mut page = io::buffer();
     let got = io::read_full(STDIN, &mut scans);
     let used = shift(&scans[..got], &mut page);
-    print(&page, used);
+    io::write_all(STDOUT, &page[..used]);
 }

@@ -8,6 +8,7 @@ use native.Mathlib.Omega.{arith}
 use borrow.Author.Tests.{le-leb}
 use lib.Dec.{lit<, lit≤}
 use lib.ListN.{length, take, drop}
+use Rattle.std.specs.Prelude.{Some}
 use Rattle.base.specs.Bit.{bit, bits}
 use Rattle.base.specs.Pick.{pick, flag}
 use Rattle.base.proofs.Booleans.{flag_le, flag_back}
@@ -125,7 +126,6 @@ module _ (tag : ℕ) (h : Header) (payload : List ℕ) where
         )
         (le-leb (pick h.extended 6 4 + length payload) (pick h.extended 6 4 + 8) (omega arith))
 
-    pub message_back : message_of (written tag h payload)
-        ≡ record { fits = true; message = record { tag = tag; header = h; bytes = data_of h payload } }
+    pub message_back : message_of (written tag h payload) ≡ Some (record { tag = tag; header = h; bytes = data_of h payload })
     unfolding message_of
     message_back = rw (right, header_to_send_back tag h payload ok, from, after)

@@ -1,10 +1,9 @@
 -- The message that 0x12 brings, after the command byte (01, Transfers; 000, Table 2).
-use Rattle.std.specs.Prelude.{Bool, true, false, ◌&&◌, List, ◌∷◌, ℕ, ◌+◌, ◌*◌, ◌%◌, ◌^◌, leb, length, drop, replicate}
+use Rattle.std.specs.Prelude.{Bool, true, false, ◌&&◌, Option, Some, None, List, ◌∷◌, ℕ, ◌+◌, ◌*◌, ◌%◌, ◌^◌, leb, length, drop, replicate}
 use Rattle.base.specs.Bit.{bits, byte, is_set}
 use Rattle.base.specs.Pick.{pick}
 use Rattle.frame.specs.declared.Header.{Header}
 use Rattle.to_send.specs.declared.ToSend.{ToSend}
-use Rattle.to_send.specs.declared.Reading.{Reading}
 use Rattle.frame.specs.Length.{data_bytes, data_of}
 use Rattle.frame.specs.Received.{received}
 use Rattle.frame.specs.Tables.{id_from}
@@ -43,15 +42,12 @@ right_length s = leb (data_from s + data_bytes (header_to_send s)) (length s) &&
 abbrev pub message_in : List ℕ → ToSend
 message_in s = record { tag = byte s 1; header = header_to_send s; bytes = data_of (header_to_send s) (drop (data_from s) s) }
 
--- what a wrong length leaves in the message's place
+-- the empty message, ToSend's default: what stands in the place of one whose length is wrong
 abbrev pub no_message : ToSend
 no_message = record { tag = 0; header = record { id = 0; extended = false; remote = false; code = 0 }; bytes = replicate 8 0 }
 
-unfoldable pub message_of : List ℕ → Reading
-message_of s =
-    pick (right_length s)
-    (record { fits = true; message = message_in s })
-    (record { fits = false; message = no_message })
+unfoldable pub message_of : List ℕ → Option ToSend
+message_of s = pick (right_length s) (Some (message_in s)) None
 
 -- As the transmit FIFO keeps it, in Table 5's layout: the tag for byte 1, no time in bytes 2 and 3, then what a
 -- receiver would read.

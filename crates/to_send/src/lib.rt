@@ -1,13 +1,15 @@
 // The message that 0x12 brings after its command byte: Table 2.
 #![tactic(auto)]
 
-ghost use Rattle.std.specs.Prelude.{◌≡◌, true};
+ghost use Rattle.std.specs.Prelude.{◌≡◌};
+ghost use Rattle.base.specs.Bit.{byte};
 ghost use Rattle.to_send.specs.ToSend.{is_extended, data_from, code_in, standard_header, extended_header};
-ghost use Rattle.to_send.specs.ToSend.{header_to_send, right_length, message_in, message_of, stored};
+ghost use Rattle.to_send.specs.ToSend.{header_to_send, right_length, message_of, stored};
 
 use frame::Header;
 
-#[derive(Clone, Copy)]
+// The default is the empty message.
+#[derive(Clone, Copy, Debug, Default, PartialEq, Eq)]
 pub struct ToSend {
     // Told again in the transmit history.
     pub tag: u8,
@@ -15,17 +17,10 @@ pub struct ToSend {
     pub bytes: [u8; 8],
 }
 
-// What 0x12 brought: the message, or an empty one in its place where the length is wrong.
-#[derive(Clone, Copy)]
-pub struct Reading {
-    pub fits: bool,
-    pub message: ToSend,
-}
-
 fn is_extended(s: &[u8]) -> bool
     ensures { result ≡ is_extended s.now }
 {
-    (base::at(s, 2) >> 3) % 2 == 1
+    base::is_set(3, base::at(s, 2))
 }
 
 fn data_from(s: &[u8]) -> usize
@@ -41,25 +36,29 @@ fn code_in(length: u8) -> u8
     length % 16
 }
 
-fn standard_header(a: u8, b: u8, length: u8) -> Header
-    ensures { result ≡ standard_header a b length }
+// In these three a byte that isn't there reads as zero: too few have a header as well, so that the length can be asked
+// for afterwards.
+fn standard_header(s: &[u8]) -> Header
+    ensures { result ≡ standard_header (byte s.now 2) (byte s.now 3) (byte s.now 4) }
 {
+    let b = base::at(s, 2);
     Header {
-        id: (a as u32) * 8 + ((b >> 5) % 8) as u32,
+        id: u32::from(base::at(s, 1)) * 8 + u32::from(b >> 5),
         extended: false,
-        remote: (b >> 4) % 2 == 1,
-        code: code_in(length),
+        remote: base::is_set(4, b),
+        code: code_in(base::at(s, 3)),
     }
 }
 
-fn extended_header(a: u8, b: u8, c: u8, d: u8, length: u8) -> Header
-    ensures { result ≡ extended_header a b c d length }
+fn extended_header(s: &[u8]) -> Header
+    ensures { result ≡ extended_header (byte s.now 2) (byte s.now 3) (byte s.now 4) (byte s.now 5) (byte s.now 6) }
 {
+    let d = base::at(s, 4);
     Header {
-        id: frame::id_from(a, b, c, d),
+        id: frame::id_from(base::at(s, 1), base::at(s, 2), base::at(s, 3), d),
         extended: true,
-        remote: d % 2 == 1,
-        code: code_in(length),
+        remote: base::is_set(0, d),
+        code: code_in(base::at(s, 5)),
     }
 }
 
@@ -68,68 +67,36 @@ fn header_to_send(s: &[u8]) -> Header
     ensures { result ≡ header_to_send s.now }
 {
     if is_extended(s) {
-        extended_header(
-            base::at(s, 1),
-            base::at(s, 2),
-            base::at(s, 3),
-            base::at(s, 4),
-            base::at(s, 5),
-        )
+        extended_header(s)
     } else {
-        standard_header(base::at(s, 1), base::at(s, 2), base::at(s, 3))
+        standard_header(s)
     }
 }
 
 // The length has to be the command's for this message, whatever bytes follow its data.
-#[tactic(auto, unfolding(crate::specs::ToSend::right_length))]
+#[tactic(auto, using(crate::proofs::Enough::data_from_le, frame::proofs::Data::data_bytes_le), unfolding(crate::specs::ToSend::right_length))]
 pub fn right_length(s: &[u8]) -> bool
     ensures { result ≡ right_length s.now }
 {
     let from = data_from(s);
     let least = from + frame::data_bytes(header_to_send(s));
-    (least <= s.len()) & (s.len() <= from + 8)
+    (least..=from + 8).contains(&s.len())
 }
 
-fn message_in(s: &[u8]) -> ToSend
-    requires { right_length s.now ≡ true }
-    ensures { result ≡ message_in s.now }
+// None where the length is wrong.
+#[tactic(auto, unfolding(crate::specs::ToSend::message_of))]
+pub fn message_of(s: &[u8]) -> Option<ToSend>
+    ensures { result ≡ message_of s.now }
 {
+    if !right_length(s) {
+        return None;
+    }
     let tag = base::at(s, 0);
     let header = header_to_send(s);
     let from = data_from(s);
-    let end = from + frame::data_bytes(header);
-    let mut bytes = [0u8; 8];
-    base::put(&s[from..end], &mut bytes);
-    ToSend { tag, header, bytes }
-}
-
-#[tactic(auto, unfolding(crate::specs::ToSend::message_of))]
-pub fn message_of(s: &[u8]) -> Reading
-    ensures { result ≡ message_of s.now }
-{
-    if right_length(s) {
-        let message = message_in(s);
-        Reading {
-            fits: true,
-            message,
-        }
-    } else {
-        let header = Header {
-            id: 0,
-            extended: false,
-            remote: false,
-            code: 0,
-        };
-        let message = ToSend {
-            tag: 0,
-            header,
-            bytes: [0u8; 8],
-        };
-        Reading {
-            fits: false,
-            message,
-        }
-    }
+    let mut bytes = [0; 8];
+    base::put(&s[from..from + frame::data_bytes(header)], &mut bytes);
+    Some(ToSend { tag, header, bytes })
 }
 
 // A message to send as the transmit FIFO keeps it: Table 5's layout, with the tag for byte 1 and no time yet.
@@ -137,9 +104,7 @@ pub fn message_of(s: &[u8]) -> Reading
 pub fn stored(m: ToSend) -> [u8; 16]
     ensures { result ≡ stored m }
 {
-    let header = m.header;
-    let eight = m.bytes;
-    let mut bytes = frame::received(header, eight, 0, 0);
+    let mut bytes = frame::received(m.header, m.bytes, 0, 0);
     bytes[0] = m.tag;
     bytes
 }

@@ -14,7 +14,7 @@ use fifo::{Fifo, Message};
 fn sends(acting: u8) -> bool
     ensures { result ≡ sends acting }
 {
-    (acting == NORMAL) | (acting == LOOPBACK)
+    matches!(acting, NORMAL | LOOPBACK)
 }
 
 // Whether a message may begin now.
@@ -52,12 +52,9 @@ fn ctrl1_begun(ctrl1: u8) -> u8
 pub fn begun(d: Device) -> Device
     ensures { result ≡ begun d }
 {
-    let tx = d.tx;
-    let m = fifo::next(tx);
-    let ctrl1 = ctrl1_begun(d.regs.ctrl1);
     let mut e = d;
-    e.regs.ctrl1 = ctrl1;
-    e.buffer = m;
+    e.regs.ctrl1 = ctrl1_begun(e.regs.ctrl1);
+    e.buffer = fifo::next(e.tx);
     e.sending = FIRST_IN_FIFO;
     e
 }
@@ -85,9 +82,8 @@ fn disabled(regs: Registers) -> Registers
 pub fn aborted(d: Device) -> Device
     ensures { result ≡ aborted d }
 {
-    let regs = disabled(d.regs);
     let mut e = d;
-    e.regs = regs;
+    e.regs = disabled(e.regs);
     stopped(e)
 }
 
@@ -103,13 +99,10 @@ fn left_alone(sending: u8) -> u8
 pub fn cleared(d: Device) -> Device
     ensures { result ≡ cleared d }
 {
-    let regs = disabled(d.regs);
-    let none = fifo::empty();
-    let sending = left_alone(d.sending);
     let mut e = d;
-    e.regs = regs;
-    e.tx = none;
-    e.sending = sending;
+    e.regs = disabled(e.regs);
+    e.tx = fifo::empty();
+    e.sending = left_alone(e.sending);
     e
 }
 
@@ -119,8 +112,7 @@ fn stamped(m: Message, time: u16) -> Message
     ensures { result ≡ stamped m time }
 {
     let mut bytes = m.bytes;
-    bytes[1] = (time / 256) as u8;
-    bytes[2] = (time % 256) as u8;
+    bytes[1..3].copy_from_slice(&time.to_be_bytes());
     Message { bytes }
 }
 
@@ -151,23 +143,12 @@ fn counted_completion(c: Counters, acting: u8) -> Counters
 pub fn transmitted(d: Device) -> Device
     ensures { result ≡ transmitted d }
 {
-    let waiting = d.tx;
-    let tx = fifo_after(waiting, d.sending);
-    let pair = d.counters;
-    let c = counted_completion(pair, d.acting);
-    let buffer = d.buffer;
-    let m = stamped(buffer, d.time);
-    let entries = d.history;
-    let history = fifo::put(entries, m);
-    let bytes = buffer.bytes;
-    let mtag = bytes[0] % 4;
-    let ctrl1 = without_tx1m(d.regs.ctrl1);
     let mut e = d;
-    e.regs.ctrl1 = ctrl1;
-    e.regs.mtag = mtag;
-    e.counters = c;
-    e.tx = tx;
+    e.regs.ctrl1 = without_tx1m(e.regs.ctrl1);
+    e.regs.mtag = e.buffer.bytes[0] % 4;
+    e.counters = counted_completion(e.counters, e.acting);
+    e.tx = fifo_after(e.tx, e.sending);
     e.sending = IDLE;
-    e.history = history;
+    e.history = fifo::put(e.history, stamped(e.buffer, e.time));
     flags::raised(e, flags::TXCPLT)
 }

@@ -9,49 +9,37 @@ mod say;
 use chip::Device;
 use events::Event;
 use frame::Header;
-use say::{say, say_answer, say_byte, say_number};
+use refusal::Refusal;
+use say::{Each, Number, Read, Said};
+use std::io::Result as Printed;
 
-// A transfer with sixteen bytes lent: says its number.
-fn transfer(d: Device, bytes: &[u8]) -> Device {
-    let mut reply = [0u8; 16];
-    let o = host::transfer(d, bytes, &mut reply);
-    say_number(o.number);
-    o.device
+// A transfer with so many bytes lent, and what they then are.
+fn lending<const LENT: usize>(d: &mut Device, bytes: &[u8]) -> Result<[u8; LENT], Refusal> {
+    let mut reply = [0; LENT];
+    let o = host::transfer(*d, bytes, &mut reply);
+    *d = o.device;
+    o.answer?;
+    Ok(reply)
 }
 
-// A transfer that only prepares a scenario.
-fn quietly(d: Device, bytes: &[u8]) -> Device {
-    let mut reply = [0u8; 16];
-    let o = host::transfer(d, bytes, &mut reply);
-    o.device
+// A transfer with sixteen bytes lent.
+fn transfer(d: &mut Device, bytes: &[u8]) -> Number<[u8; 16]> {
+    Number(lending(d, bytes))
 }
 
-// A read with thirteen bytes lent, one too few for 0x48.
-fn read_short(d: Device) -> Device {
-    let mut reply = [0u8; 13];
-    let o = host::transfer(d, &[0x48], &mut reply);
-    say_number(o.number);
-    o.device
+// A read with sixteen, of which the first N are shown.
+fn read<const N: usize>(d: &mut Device, command: u8) -> Read<N> {
+    Read(lending(d, &[command]))
 }
 
-// A read: says its number and the first bytes of its reply.
-fn read(d: Device, command: u8, count: usize) -> Device {
-    let mut reply = [0u8; 16];
-    let o = host::transfer(d, &[command], &mut reply);
-    say_number(o.number);
-    for i in 0..16 {
-        if i < count {
-            say_byte(reply[i]);
-        }
-    }
-    o.device
+fn happens(d: &mut Device, e: Event) -> Said {
+    brings(d, e, [0; 8])
 }
 
-fn happens(d: Device, e: Event) -> Device {
-    let o = bus::event(d, e, [0; 8]);
-    let a = o.answer;
-    say_answer(a);
-    o.device
+fn brings(d: &mut Device, e: Event, payload: [u8; 8]) -> Said {
+    let o = bus::event(*d, e, payload);
+    *d = o.device;
+    Said(o.answer)
 }
 
 // A standard data frame.
@@ -65,23 +53,22 @@ fn standard(id: u32, code: u8) -> Header {
 }
 
 // One that another node acknowledged.
-fn frame_with(d: Device, id: u32, code: u8, given: usize, payload: [u8; 8]) -> Device {
-    let o = bus::event(
+fn frame_with(d: &mut Device, id: u32, code: u8, given: usize, payload: [u8; 8]) -> Said {
+    brings(
         d,
         Event::GoodFrame(standard(id, code), true, given),
         payload,
-    );
-    let a = o.answer;
-    say_answer(a);
-    o.device
+    )
 }
 
-fn scan(d: Device, id: u32) -> Device {
+fn scan(d: &mut Device, id: u32) -> Said {
     frame_with(d, id, 0, 0, [0; 8])
 }
 
 fn normal() -> Device {
-    quietly(chip::fresh(), &[0x14, 0x00])
+    let mut d = chip::fresh();
+    transfer(&mut d, &[0x14, 0x00]);
+    d
 }
 
 // Normal mode with filtering on: every filter asks for identifier 0x123 and, in the bits that `counts` has, for this
@@ -90,136 +77,134 @@ fn filtering(first: u8, counts: u8) -> Device {
     let mut d = chip::fresh();
     let filters = [0x62, 0x64, 0x66, 0x68, 0x6A, 0x6C, 0x6E, 0x72];
     let masks = [0x74, 0x76, 0x78, 0x7A, 0x7C, 0x7E, 0x82, 0x84];
-    for i in 0..8 {
-        d = quietly(d, &[filters[i], 0x24, 0x60, 0, 0, first, 0]);
-        d = quietly(d, &[masks[i], 0xFF, 0xE0, 0, 0, counts, 0]);
+    for (filter, mask) in filters.iter().zip(&masks) {
+        transfer(&mut d, &[*filter, 0x24, 0x60, 0, 0, first, 0]);
+        transfer(&mut d, &[*mask, 0xFF, 0xE0, 0, 0, counts, 0]);
     }
-    d = quietly(d, &[0x16, 0x10]);
-    quietly(d, &[0x14, 0x00])
-}
-
-fn full_queue(start: Device) -> Device {
-    let mut d = start;
-    for _ in 0..8 {
-        d = scan(d, 0x123);
-    }
+    transfer(&mut d, &[0x16, 0x10]);
+    transfer(&mut d, &[0x14, 0x00]);
     d
 }
 
-fn eight_and_a_ninth() {
-    say(b"eight frames, a ninth, one read, the next:");
-    let d = scan(full_queue(normal()), 0x124);
-    let e = read(d, 0x48, 0);
-    scan(e, 0x125);
-    say(b"\n");
+fn full_queue(d: &mut Device) -> Each {
+    Each([0x123; 8].map(|id| scan(d, id)))
 }
 
-fn message_to_send() {
-    say(b"12 07 24 60 02 AA 55, and without the 55:");
-    let d = transfer(normal(), &[0x12, 0x07, 0x24, 0x60, 0x02, 0xAA, 0x55]);
-    transfer(d, &[0x12, 0x07, 0x24, 0x60, 0x02, 0xAA]);
-    say(b"\n");
+fn eight_and_a_ninth(rt: &impl Print) -> Printed<()> {
+    let mut d = normal();
+    let eight = full_queue(&mut d);
+    let ninth = scan(&mut d, 0x124);
+    let read = read::<0>(&mut d, 0x48);
+    let next = scan(&mut d, 0x125);
+    println!(rt; "eight frames, a ninth, one read, the next:{eight} {ninth} {read} {next}")
 }
 
-fn empty_fifo() {
-    say(b"0x48 on an empty FIFO, 14 bytes lent:");
-    let mut reply = [0u8; 14];
-    let o = host::transfer(normal(), &[0x48], &mut reply);
-    say_number(o.number);
-    say(b"\n");
+fn message_to_send(rt: &impl Print) -> Printed<()> {
+    let mut d = normal();
+    let whole = transfer(&mut d, &[0x12, 0x07, 0x24, 0x60, 0x02, 0xAA, 0x55]);
+    let short = transfer(&mut d, &[0x12, 0x07, 0x24, 0x60, 0x02, 0xAA]);
+    println!(rt; "12 07 24 60 02 AA 55, and without the 55: {whole} {short}")
 }
 
-fn mask_in_normal_mode() {
-    say(b"a mask write in normal mode:");
-    transfer(normal(), &[0x74, 0xFF, 0xE0, 0, 0, 0, 0]);
-    say(b"\n");
+fn empty_fifo(rt: &impl Print) -> Printed<()> {
+    let read = Number(lending::<14>(&mut normal(), &[0x48]));
+    println!(rt; "0x48 on an empty FIFO, 14 bytes lent: {read}")
+}
+
+fn mask_in_normal_mode(rt: &impl Print) -> Printed<()> {
+    let write = transfer(&mut normal(), &[0x74, 0xFF, 0xE0, 0, 0, 0, 0]);
+    println!(rt; "a mask write in normal mode: {write}")
 }
 
 // After 0x54 the new message stays, and only its own completion takes it.
-fn cleared_while_running() {
-    say(
-        b"0x54 while one runs, a new message, the old completion, STATF, then the new one's history:",
-    );
-    let d = quietly(normal(), &[0x12, 0x01, 0x24, 0x60, 0x00]);
-    let d = quietly(d, &[0x16, 0x80]);
-    let d = happens(d, Event::Begun);
-    let d = transfer(d, &[0x54]);
-    let d = transfer(d, &[0x12, 0x02, 0x24, 0x60, 0x00]);
-    let d = happens(d, Event::Completed);
-    let d = read(d, 0xE2, 1);
-    let d = quietly(d, &[0x16, 0x80]);
-    let d = happens(d, Event::Begun);
-    let d = happens(d, Event::Completed);
-    let d = read(d, 0xEE, 1);
-    read(d, 0xEE, 1);
-    say(b"\n");
+fn cleared_while_running(rt: &impl Print) -> Printed<()> {
+    let mut d = normal();
+    transfer(&mut d, &[0x12, 0x01, 0x24, 0x60, 0x00]);
+    transfer(&mut d, &[0x16, 0x80]);
+    let begun = happens(&mut d, Event::Begun);
+    let cleared = transfer(&mut d, &[0x54]);
+    let new = transfer(&mut d, &[0x12, 0x02, 0x24, 0x60, 0x00]);
+    let old = happens(&mut d, Event::Completed);
+    let statf = read::<1>(&mut d, 0xE2);
+    transfer(&mut d, &[0x16, 0x80]);
+    let again = happens(&mut d, Event::Begun);
+    let own = happens(&mut d, Event::Completed);
+    let first = read::<1>(&mut d, 0xEE);
+    let second = read::<1>(&mut d, 0xEE);
+    print!(rt;
+        "0x54 while one runs, a new message, the old completion, STATF, then the new one's history: "
+    )?;
+    println!(rt; "{begun} {cleared} {new} {old} {statf} {again} {own} {first} {second}")
 }
 
-fn length_code_nine() {
-    say(b"length code 9 with eight bytes, with nine, and as read:");
-    let d = frame_with(normal(), 0x123, 9, 8, [1, 2, 3, 4, 5, 6, 7, 8]);
-    let d = frame_with(d, 0x123, 9, 9, [1, 2, 3, 4, 5, 6, 7, 8]);
-    read(d, 0x48, 14);
-    say(b"\n");
+fn length_code_nine(rt: &impl Print) -> Printed<()> {
+    let mut d = normal();
+    let eight = frame_with(&mut d, 0x123, 9, 8, [1, 2, 3, 4, 5, 6, 7, 8]);
+    let nine = frame_with(&mut d, 0x123, 9, 9, [1, 2, 3, 4, 5, 6, 7, 8]);
+    let read = read::<14>(&mut d, 0x48);
+    println!(rt; "length code 9 with eight bytes, with nine, and as read: {eight} {nine} {read}")
 }
 
-fn filtered_off() {
-    say(b"a frame that no filter matches, in the temporary buffer:");
-    let d = scan(filtering(0, 0), 0x124);
-    read(d, 0x44, 5);
-    say(b"\n");
+fn filtered_off(rt: &impl Print) -> Printed<()> {
+    let mut d = filtering(0, 0);
+    let missed = scan(&mut d, 0x124);
+    let read = read::<5>(&mut d, 0x44);
+    println!(rt; "a frame that no filter matches, in the temporary buffer: {missed} {read}")
 }
 
-fn short_buffer() {
-    say(b"a read with too short a buffer, then one long enough:");
-    let d = scan(normal(), 0x123);
-    let d = read_short(d);
-    read(d, 0x48, 4);
-    say(b"\n");
+// Thirteen bytes lent are one too few for 0x48.
+fn short_buffer(rt: &impl Print) -> Printed<()> {
+    let mut d = normal();
+    let queued = scan(&mut d, 0x123);
+    let short = Number(lending::<13>(&mut d, &[0x48]));
+    let read = read::<4>(&mut d, 0x48);
+    println!(rt; "a read with too short a buffer, then one long enough: {queued} {short} {read}")
 }
 
-fn stranger_at_a_full_queue() {
-    say(b"a full queue, a stranger's frame, one of ours:");
-    let d = scan(full_queue(filtering(0, 0)), 0x124);
-    scan(d, 0x123);
-    say(b"\n");
+fn stranger_at_a_full_queue(rt: &impl Print) -> Printed<()> {
+    let mut d = filtering(0, 0);
+    let eight = full_queue(&mut d);
+    let stranger = scan(&mut d, 0x124);
+    let ours = scan(&mut d, 0x123);
+    println!(rt; "a full queue, a stranger's frame, one of ours:{eight} {stranger} {ours}")
 }
 
 // What stands in the payload behind the frame's own bytes is nothing to filters and reads.
-fn payload_behind_the_count() {
-    say(
-        b"filters that ask for AA: a frame without data, AA behind it; one with AA, 55 behind it, and as read:",
-    );
-    let d = frame_with(filtering(0xAA, 0xFF), 0x123, 0, 0, [0xAA; 8]);
-    let d = frame_with(
-        d,
-        0x123,
-        1,
-        1,
-        [0xAA, 0x55, 0x55, 0x55, 0x55, 0x55, 0x55, 0x55],
-    );
-    read(d, 0x48, 14);
-    say(b"\n");
+fn payload_behind_the_count(rt: &impl Print) -> Printed<()> {
+    let mut d = filtering(0xAA, 0xFF);
+    let without = frame_with(&mut d, 0x123, 0, 0, [0xAA; 8]);
+    let mut payload = [0x55; 8];
+    payload[0] = 0xAA;
+    let with = frame_with(&mut d, 0x123, 1, 1, payload);
+    let read = read::<14>(&mut d, 0x48);
+    print!(rt;
+        "filters that ask for AA: a frame without data, AA behind it; one with AA, 55 behind it, and as read: "
+    )?;
+    println!(rt; "{without} {with} {read}")
 }
 
-fn unknown_kind() {
-    say(b"an event of no kind that there is:");
-    happens(normal(), Event::Unknown);
-    say(b"\n");
+fn unknown_kind(rt: &impl Print) -> Printed<()> {
+    let unknown = happens(&mut normal(), Event::Unknown);
+    println!(rt; "an event of no kind that there is: {unknown}")
 }
 
-fn main() {
-    eight_and_a_ninth();
-    message_to_send();
-    empty_fifo();
-    mask_in_normal_mode();
-    cleared_while_running();
-    length_code_nine();
-    filtered_off();
-    short_buffer();
-    stranger_at_a_full_queue();
-    payload_behind_the_count();
-    unknown_kind();
-    last_numbers::each();
-    ranges::each();
+fn each(rt: &impl Print) -> Printed<()> {
+    eight_and_a_ninth(rt)?;
+    message_to_send(rt)?;
+    empty_fifo(rt)?;
+    mask_in_normal_mode(rt)?;
+    cleared_while_running(rt)?;
+    length_code_nine(rt)?;
+    filtered_off(rt)?;
+    short_buffer(rt)?;
+    stranger_at_a_full_queue(rt)?;
+    payload_behind_the_count(rt)?;
+    unknown_kind(rt)?;
+    last_numbers::each(rt)?;
+    ranges::each(rt)
+}
+
+fn main(rt: HostRuntime) {
+    // What can't be written is not told of.
+    let _ = each(&rt);
 }

@@ -1,161 +1,129 @@
 // Number 1: of each range that `chip::proper` asks for, a device just outside it and its neighbour at the bound, at
 // both doors, asked why and asked for its numbers.
-use crate::say::{say, say_answer, say_number};
-use crate::standard;
-use chip::Device;
+use crate::say::{Number, Said};
+use crate::{Printed, standard};
+use chip::{Device, FIRST_IN_FIFO};
 use events::Event;
-use fifo::Fifo;
+use std::fmt;
 
 // What a read of CTRL0, an event of no ticks, the question why a frame would not arrive and that of the arrival numbers
 // are given.
-fn asked(d: Device) {
-    let mut reply = [0u8; 1];
-    let o = host::transfer(d, &[0xD2], &mut reply);
-    say_number(o.number);
-    let p = bus::event(d, Event::Ticks(0), [0; 8]);
-    let a = p.answer;
-    say_answer(a);
-    let w = why::explained(d, standard(0x123, 0), true, 0, [0; 8]);
-    let a = w.answer;
-    say_answer(a);
-    let told = bus::numbers(d);
-    say_number(told.number);
+#[derive(Clone, Copy)]
+struct Asked(Device);
+
+impl fmt::Display for Asked {
+    fn fmt<W: fmt::Write>(&self, f: &mut fmt::Formatter<W>) -> fmt::Result {
+        let d = self.0;
+        let read = Number(host::transfer(d, &[0xD2], &mut [0; 1]).answer);
+        let ticks = Said(bus::event(d, Event::Ticks(0), [0; 8]).answer);
+        let why = Said(why::explained(d, standard(0x123, 0), true, 0, [0; 8]).answer);
+        let numbers = Number(bus::numbers(d));
+        write!(f, "{read} {ticks} {why} {numbers}")
+    }
 }
 
-fn on_both_sides(range: &[u8], outside: Device, at_the_bound: Device) {
-    say(range);
-    asked(outside);
-    say(b",");
-    asked(at_the_bound);
-    say(b"\n");
+// A fresh device but for one change, with the first value outside a range and with its bound.
+fn on_both_sides<F: Fn(&mut Device, u8)>(
+    rt: &impl Print,
+    range: &str,
+    outside: u8,
+    bound: u8,
+    change: F,
+) -> Printed<()>
+    requires { F.IsAlwaysCallable change }
+{
+    let changed = |value| {
+        let mut d = chip::fresh();
+        change(&mut d, value);
+        Asked(d)
+    };
+    println!(rt; "{range}: {}, {}", changed(outside), changed(bound))
 }
 
-fn queue(first: u8, count: u8) -> Fifo {
-    let mut q = fifo::empty();
-    q.first = first;
-    q.count = count;
-    q
+fn queues(rt: &impl Print) -> Printed<()> {
+    on_both_sides(
+        rt,
+        "receive FIFO, first 8 and 7",
+        8,
+        7,
+        |d, n| d.rx.first = n,
+    )?;
+    on_both_sides(
+        rt,
+        "receive FIFO, 9 and 8 messages",
+        9,
+        8,
+        |d, n| d.rx.count = n,
+    )?;
+    on_both_sides(
+        rt,
+        "transmit FIFO, first 8 and 7",
+        8,
+        7,
+        |d, n| d.tx.first = n,
+    )?;
+    on_both_sides(
+        rt,
+        "transmit FIFO, 9 and 8 messages",
+        9,
+        8,
+        |d, n| d.tx.count = n,
+    )?;
+    on_both_sides(
+        rt,
+        "history, first 8 and 7",
+        8,
+        7,
+        |d, n| d.history.first = n,
+    )?;
+    on_both_sides(
+        rt,
+        "history, 9 and 8 entries",
+        9,
+        8,
+        |d, n| d.history.count = n,
+    )
 }
 
-fn receiving(first: u8, count: u8) -> Device {
-    let mut d = chip::fresh();
-    d.rx = queue(first, count);
-    d
+fn registers(rt: &impl Print) -> Printed<()> {
+    on_both_sides(rt, "ERR, 32 and 31", 32, 31, |d, n| d.regs.errs = n)?;
+    on_both_sides(rt, "MTAG, 4 and 3", 4, 3, |d, n| d.regs.mtag = n)?;
+    on_both_sides(
+        rt,
+        "groups, 129 and 128",
+        129,
+        128,
+        |d, n| d.counters.groups = n,
+    )
 }
 
-fn sending(first: u8, count: u8, runs: u8) -> Device {
-    let mut d = chip::fresh();
-    d.tx = queue(first, count);
-    d.sending = runs;
-    d
+fn running(rt: &impl Print) -> Printed<()> {
+    on_both_sides(rt, "one runs as the first of 0 and of 1", 0, 1, |d, n| {
+        d.tx.count = n;
+        d.sending = FIRST_IN_FIFO;
+    })?;
+    on_both_sides(rt, "what runs, 3 and 2", 3, 2, |d, n| d.sending = n)
 }
 
-fn remembering(first: u8, count: u8) -> Device {
-    let mut d = chip::fresh();
-    d.history = queue(first, count);
-    d
+fn acting(rt: &impl Print, range: &str, ctrl0: u8, outside: u8, bound: u8) -> Printed<()> {
+    on_both_sides(rt, range, outside, bound, |d, mode| {
+        d.regs.ctrl0 = ctrl0;
+        d.acting = mode;
+    })
 }
 
-fn showing(errs: u8, mtag: u8) -> Device {
-    let mut d = chip::fresh();
-    d.regs.errs = errs;
-    d.regs.mtag = mtag;
-    d
+fn modes(rt: &impl Print) -> Printed<()> {
+    acting(rt, "MODE 000, acting 1 and 0", 0x00, 1, 0)?;
+    acting(rt, "MODE 001, acting 0 and 1", 0x20, 0, 1)?;
+    acting(rt, "MODE 010, acting 3 and 2", 0x40, 3, 2)?;
+    acting(rt, "MODE 100, acting 3 and 4", 0x80, 3, 4)?;
+    acting(rt, "MODE 111, acting 5 and 4", 0xE0, 5, 4)?;
+    acting(rt, "MODE 011, acting 5 and 4", 0x60, 5, 4)
 }
 
-fn counting(groups: u8) -> Device {
-    let mut d = chip::fresh();
-    d.counters.groups = groups;
-    d
-}
-
-fn acting(ctrl0: u8, mode: u8) -> Device {
-    let mut d = chip::fresh();
-    d.regs.ctrl0 = ctrl0;
-    d.acting = mode;
-    d
-}
-
-fn queues() {
-    on_both_sides(
-        b"receive FIFO, first 8 and 7:",
-        receiving(8, 0),
-        receiving(7, 0),
-    );
-    on_both_sides(
-        b"receive FIFO, 9 and 8 messages:",
-        receiving(0, 9),
-        receiving(0, 8),
-    );
-    on_both_sides(
-        b"transmit FIFO, first 8 and 7:",
-        sending(8, 0, 0),
-        sending(7, 0, 0),
-    );
-    on_both_sides(
-        b"transmit FIFO, 9 and 8 messages:",
-        sending(0, 9, 0),
-        sending(0, 8, 0),
-    );
-    on_both_sides(
-        b"history, first 8 and 7:",
-        remembering(8, 0),
-        remembering(7, 0),
-    );
-    on_both_sides(
-        b"history, 9 and 8 entries:",
-        remembering(0, 9),
-        remembering(0, 8),
-    );
-}
-
-fn registers() {
-    on_both_sides(b"ERR, 32 and 31:", showing(32, 0), showing(31, 0));
-    on_both_sides(b"MTAG, 4 and 3:", showing(0, 4), showing(0, 3));
-    on_both_sides(b"groups, 129 and 128:", counting(129), counting(128));
-}
-
-fn running_and_modes() {
-    on_both_sides(
-        b"one runs as the first of 0 and of 1:",
-        sending(0, 0, 1),
-        sending(0, 1, 1),
-    );
-    on_both_sides(b"what runs, 3 and 2:", sending(0, 0, 3), sending(0, 0, 2));
-    on_both_sides(
-        b"MODE 000, acting 1 and 0:",
-        acting(0x00, 1),
-        acting(0x00, 0),
-    );
-    on_both_sides(
-        b"MODE 001, acting 0 and 1:",
-        acting(0x20, 0),
-        acting(0x20, 1),
-    );
-    on_both_sides(
-        b"MODE 010, acting 3 and 2:",
-        acting(0x40, 3),
-        acting(0x40, 2),
-    );
-    on_both_sides(
-        b"MODE 100, acting 3 and 4:",
-        acting(0x80, 3),
-        acting(0x80, 4),
-    );
-    on_both_sides(
-        b"MODE 111, acting 5 and 4:",
-        acting(0xE0, 5),
-        acting(0xE0, 4),
-    );
-    on_both_sides(
-        b"MODE 011, acting 5 and 4:",
-        acting(0x60, 5),
-        acting(0x60, 4),
-    );
-}
-
-pub(crate) fn each() {
-    queues();
-    registers();
-    running_and_modes();
+pub(crate) fn each(rt: &impl Print) -> Printed<()> {
+    queues(rt)?;
+    registers(rt)?;
+    running(rt)?;
+    modes(rt)
 }

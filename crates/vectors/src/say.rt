@@ -1,64 +1,98 @@
 // What the vectors print.
-use judged::Answer;
+use bus::types::{Answer, Numbers};
 use receive::Arrival;
+use refusal::Refusal;
+use std::fmt;
 
-// Standard output's number, which is what `io` writes to.
-const STDOUT: i32 = 1;
+// The number that a door gives: 0, or that of the refusal.
+#[derive(Clone, Copy)]
+pub struct Number<T>(pub Result<T, Refusal>);
 
-const DIGITS: [u8; 16] = [
-    b'0', b'1', b'2', b'3', b'4', b'5', b'6', b'7', b'8', b'9', b'A', b'B', b'C', b'D', b'E', b'F',
-];
-
-pub(crate) fn say(t: &[u8]) {
-    io::write_all(STDOUT, t);
-}
-
-pub(crate) fn say_byte(b: u8) {
-    say(&[b' ', DIGITS[(b / 16) as usize], DIGITS[(b % 16) as usize]]);
-}
-
-// In decimal.
-pub(crate) fn say_large(n: u64) {
-    let mut digits = [0u8; 20];
-    let k = io::decimal(n, &mut digits);
-    say(b" ");
-    say(&digits[..k]);
-}
-
-pub(crate) fn say_number(n: u8) {
-    say_large(n as u64);
-}
-
-// The identifier that is lost, in four bytes, and its kind.
-fn say_over(id: u32, extended: bool) {
-    say(b" Queued-over");
-    say_byte((id / 16777216) as u8);
-    say_byte((id / 65536 % 256) as u8);
-    say_byte((id / 256 % 256) as u8);
-    say_byte((id % 256) as u8);
-    if extended {
-        say(b" ext");
-    } else {
-        say(b" std");
+impl<T> fmt::Display for Number<T> {
+    fn fmt<W: fmt::Write>(&self, f: &mut fmt::Formatter<W>) -> fmt::Result {
+        let number = match &self.0 {
+            Ok(_) => 0,
+            Err(refusal) => refusal.number(),
+        };
+        write!(f, "{number}")
     }
 }
 
-pub(crate) fn say_arrival(what: Arrival) {
-    match what {
-        Arrival::Queued => say(b" Queued"),
-        Arrival::QueuedOver(id, extended) => say_over(id, extended),
-        Arrival::A1 => say(b" A1"),
-        Arrival::A2 => say(b" A2"),
-        Arrival::A3 => say(b" A3"),
-        Arrival::A4 => say(b" A4"),
+// The number and, where it is 0, the first bytes of the reply.
+#[derive(Clone, Copy)]
+pub struct Read<const N: usize>(pub Result<[u8; 16], Refusal>);
+
+impl<const N: usize> fmt::Display for Read<N> {
+    fn fmt<W: fmt::Write>(&self, f: &mut fmt::Formatter<W>) -> fmt::Result {
+        write!(f, "{}", Number(self.0))?;
+        if let Ok(reply) = &self.0 {
+            for b in reply.iter().take(N) {
+                write!(f, " {b:02X}")?;
+            }
+        }
+        Ok(())
     }
 }
 
 // A success by its name, so that it can't be taken for a refusal with 0.
-pub(crate) fn say_answer(a: Answer) {
-    match a {
-        Answer::Refused(n) => say_number(n),
-        Answer::Done => say(b" Done"),
-        Answer::Arrived(what) => say_arrival(what),
+#[derive(Clone, Copy)]
+pub struct Said(pub Answer);
+
+impl fmt::Display for Said {
+    fn fmt<W: fmt::Write>(&self, f: &mut fmt::Formatter<W>) -> fmt::Result {
+        match self.0 {
+            Ok(Some(what)) => write!(f, "{}", Word(what)),
+            Ok(None) => f.write_str("Done"),
+            Err(refusal) => write!(f, "{}", refusal.number()),
+        }
+    }
+}
+
+#[derive(Clone, Copy)]
+struct Word(Arrival);
+
+impl fmt::Display for Word {
+    fn fmt<W: fmt::Write>(&self, f: &mut fmt::Formatter<W>) -> fmt::Result {
+        match self.0 {
+            Arrival::Queued => f.write_str("Queued"),
+            // The identifier that is lost, in four bytes, and its kind.
+            Arrival::QueuedOver(id, extended) => {
+                let [a, b, c, d] = id.to_be_bytes();
+                let kind = if extended { "ext" } else { "std" };
+                write!(f, "Queued-over {a:02X} {b:02X} {c:02X} {d:02X} {kind}")
+            }
+            Arrival::A1 => f.write_str("A1"),
+            Arrival::A2 => f.write_str("A2"),
+            Arrival::A3 => f.write_str("A3"),
+            Arrival::A4 => f.write_str("A4"),
+        }
+    }
+}
+
+// A space before each.
+#[derive(Clone, Copy)]
+pub struct Each(pub [Said; 8]);
+
+impl fmt::Display for Each {
+    fn fmt<W: fmt::Write>(&self, f: &mut fmt::Formatter<W>) -> fmt::Result {
+        for said in self.0.iter() {
+            write!(f, " {said}")?;
+        }
+        Ok(())
+    }
+}
+
+// The arrival numbers: the last, that of the temporary buffer, how many wait, and the first of them.
+#[derive(Clone, Copy)]
+pub struct Told(pub Result<Numbers, Refusal>);
+
+impl fmt::Display for Told {
+    fn fmt<W: fmt::Write>(&self, f: &mut fmt::Formatter<W>) -> fmt::Result {
+        write!(f, "{}", Number(self.0))?;
+        if let Ok(told) = self.0 {
+            let first = told.waiting[0];
+            write!(f, " {} {} {} {first}", told.last, told.temp, told.count)?;
+        }
+        Ok(())
     }
 }

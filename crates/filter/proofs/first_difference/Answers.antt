@@ -1,19 +1,16 @@
--- `filter::first_difference` meets its contract.
-use Rattle.std.proofs.Common.{◌≡◌, ◌∙◌, sym, true, false, arith}
-use Rattle.filter.proofs.First.{first_turn}
+-- `filter::first_difference` meets its contract: it is what a search over the places finds.
+use Rattle.std.proofs.Common.{◌≡◌, true, false, rules, tests}
+use Rattle.std.proofs.lemmas.Iterator.{first_from_Range}
+use Rattle.filter.specs.Match.{bit_at_place, counted_of}
+use Rattle.filter.specs.First.{differs_at, first_difference}
+use Rattle.filter.proofs.First.{found_first}
 use Rattle.filter.proofs.first_difference.Goals as goal
 
-pub returns-then-differs_at : goal.returns-then-differs_at
-returns-then-differs_at c =
-    sym (c.loop-place.invariant.1 ∙ first_turn _ 48 c.loop-place.place true (omega arith) (sym c.differs_at.ensures ∙ c.if-differs_at.true))
-
-pub loop-place-preserved : goal.loop-place-preserved
-loop-place-preserved c = (
-  omega arith,
-  c.loop-place.invariant.1 ∙ first_turn _ 48 c.loop-place.place false (omega arith) (sym c.differs_at.ensures ∙ c.if-differs_at.false),
-)
-
 pub returns : goal.returns
+unfolding first_difference
 returns c =
-    let all : c.loop-place.place ≡ 48 = omega arith in
-    sym (rw all at c.loop-place.invariant.1 ∙ sym all)
+    let says = differs_at (bit_at_place c.args.vector) (bit_at_place c.args.filter) (counted_of c.args.mask) in
+    found_first says 48 c.find.result
+    (first_from_Range _ _ _ _ (λ k. says k ≡ true) (λ k. says k ≡ false) c.find.ensures.ran
+    (λ x q k. search (rules, tests))
+    (λ x q k. search (rules, tests)))

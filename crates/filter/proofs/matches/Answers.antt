@@ -1,19 +1,16 @@
--- `filter::matches` meets its contract.
-use Rattle.std.proofs.Common.{◌≡◌, ◌+◌, ◌*◌, arith}
-use Rattle.filter.specs.Match.{matches}
-use Rattle.filter.proofs.Bytes.{byte_more}
+-- `filter::matches` meets its contract: what it asks of the bytes in turn is what the rule asks of their places.
+use Rattle.std.proofs.Common.{◌∙◌, rules, tests}
+use Rattle.std.proofs.lemmas.Iterator.{YieldsList-from_slice, YieldsList-from_zip}
+use Rattle.std.proofs.lemmas.Iterator.Search.{all_from_yields_List}
+use Rattle.filter.proofs.Bytes.{alike_bytes, six_agree}
 use Rattle.filter.proofs.matches.Goals as goal
 
-pub loop-k-preserved : goal.loop-k-preserved
-loop-k-preserved c =
-    let k = c.loop-k.k in
-    let next : 8 * (k + 1) ≡ 8 * k + 8 = omega arith in (
-      omega arith,
-      rw (next, byte_more k c.args.vector c.args.filter c.args.mask, ← c.loop-k.invariant.1, ← c.counted.ensures, c.byte_agrees-all.ensures),
-    )
-
 pub returns : goal.returns
-unfolding matches
 returns c =
-    let last : c.loop-k.k ≡ 6 = omega arith in
-    rw last at c.loop-k.invariant.1
+    let v = c.args.vector in
+    let f = c.args.filter in
+    let m = c.counted-counted.result in
+    all_from_yields_List alike_bytes c.all.new.self _ _ c.all.ensures.ran
+    (YieldsList-from_zip (YieldsList-from_zip (YieldsList-from_slice v cc) (YieldsList-from_slice f cc)) (YieldsList-from_slice m cc))
+    (λ x b q k. search (rules, tests))
+    ∙ rw c.counted-counted.ensures (six_agree v f c.args.mask (search rules) (search rules) (search rules))

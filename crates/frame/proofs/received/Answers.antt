@@ -1,27 +1,23 @@
--- `frame::received` meets its contract: what is copied behind the eight bytes written first is the frame's data, and
--- zeros stay behind them. Assumes nothing.
-use Rattle.std.proofs.Common.{rules, ◌≡◌, ◌∙◌, sym, length, arith, append-nil}
-use Rattle.std.proofs.Math.Seq.{length-take-le}
-use Rattle.frame.specs.Length.{data_of}
+-- `frame::received` meets its contract: the parts stand where Table 5 has them. Assumes nothing.
+use Rattle.std.proofs.Common.{◌≡◌, [], ◌∷◌, ◌%◌, ap, ◌∙◌, arith, append-nil}
+use Rattle.base.specs.Bit.{time_bytes}
 use Rattle.frame.specs.Received.{received}
 use Rattle.frame.specs.Tables.{id_as_read}
-use Rattle.frame.proofs.Data.{data_bytes_le, data_put}
 use Rattle.frame.proofs.received.Goals as goal
-
-pub slice_bounds-payload-end : goal.slice_bounds-payload-end
-slice_bounds-payload-end c =
-    let eight : length c.args.payload ≡ 8 = search rules in
-    omega (arith, c.data_bytes-n.ensures, data_bytes_le c.args.h)
-
-pub slice_bounds-put-end : goal.slice_bounds-put-end
-slice_bounds-put-end c =
-    let eight : length c.args.payload ≡ 8 = search rules in
-    sym (length-take-le _ c.args.payload (omega (arith, c.data_bytes-n.ensures, data_bytes_le c.args.h)))
 
 pub returns : goal.returns
 unfolding received id_as_read
 returns c =
-    let eight : length c.args.payload ≡ 8 = search rules in
-    let d : c.put.new.buffer ≡ data_of c.args.h c.args.payload =
-    c.put.ensures ∙ rw c.data_bytes-n.ensures (data_put c.args.h c.args.payload (omega (arith, data_bytes_le c.args.h))) in
-    rw (d, append-nil (data_of c.args.h c.args.payload), c.id_as_read-id.ensures, c.flag-ide.ensures.0)
+    let time = c.args.time in
+    let tag : c.to_be_bytes.result ≡ time_bytes time =
+    c.to_be_bytes.ensures ∙ ap (λ upper. upper ∷ time % 256 ∷ []) (omega arith) in
+    rw (
+      c.copy_from_slice.ensures.after,
+      c.copy_from_slice-2.ensures.after,
+      c.copy_from_slice-3.ensures.after,
+      tag,
+      c.id_as_read.ensures,
+      c.data_of.ensures,
+      c.flag.ensures.0,
+      append-nil,
+    )

@@ -7,4 +7,4 @@ use Rattle.terminal.proofs.look.Goals as goal
 pub returns-else-pins : goal.returns-else-pins
 returns-else-pins c =
     asleep c.args.d c.requires.reached c.requires.listens c.requires.wakes
-    (sym (ap (λ (p : Pins). p.int) c.pins-pins.ensures) ∙ c.if-pins.false) c.args.page.now c.args.at
+    (sym (ap (λ (p : Pins). p.int) c.pins-pins.ensures) ∙ c.if-pins.false) c.args.page.now

@@ -6,8 +6,8 @@ use Rattle.terminal.proofs.read.Goals as goal
 
 pub returns-clause-line : goal.returns-clause-line
 returns-clause-line c =
-    let long : length c.transfer-o.new.reply ≡ 14 = search rules in
-    let eight : length (drop 6 c.transfer-o.new.reply) ≡ 8 = length-drop 6 c.transfer-o.new.reply ∙ omega arith in
+    let long : length c.transfer.new.reply ≡ 14 = search rules in
+    let eight : length (drop 6 c.transfer.new.reply) ≡ 8 = length-drop 6 c.transfer.new.reply ∙ omega arith in
     c.copy_from_slice.ensures.after
-    ∙ take_all 8 (drop 6 c.transfer-o.new.reply) (omega arith)
-    ∙ ap (drop 6) c.transfer-o.ensures.reply
+    ∙ take_all 8 (drop 6 c.transfer.new.reply) (omega arith)
+    ∙ ap (drop 6) c.transfer.ensures.reply

@@ -2,5 +2,5 @@
 use Rattle.line.proofs.Gathering.{gathered_all}
 use Rattle.line.proofs.data.gather.Goals as goal
 
-pub loop-d-init : goal.loop-d-init
-loop-d-init c = (c.requires, gathered_all _)
+pub loop-word-init : goal.loop-word-init
+loop-word-init c = gathered_all _

@@ -1,12 +1,12 @@
--- The loop of `line::data::gather`: with the words that are left, the data so far is the data of all.
-use Rattle.std.proofs.Common.{◌≡◌, ◌≤◌, ◌-◌, length, drop}
+-- The loop of `line::data::gather`: with the words that are left, the data so far are the data of all.
+use Rattle.std.proofs.Common.{◌≡◌, length}
 use Rattle.line.specs.Words.{words_of}
-use Rattle.line.specs.Data.{gather_of}
+use Rattle.line.specs.Data.{data_of}
 use Rattle.line.proofs.Gathering.{gathered}
 use Rattle.line.proofs.data.gather.Given as goal
 
-abbrev pub invariant-loop-d : goal.invariant-loop-d
-invariant-loop-d l = (l.i ≤ length l.s) × (gathered l.d (words_of (drop l.i l.s)) ≡ gather_of (words_of (drop l.at l.s)))
+abbrev pub invariant-loop-word : goal.invariant-loop-word
+invariant-loop-word l = gathered l.data (words_of l.rest) ≡ data_of (words_of l.s)
 
-abbrev pub decreases-loop-d : goal.decreases-loop-d
-decreases-loop-d l = length l.s - l.i
+abbrev pub decreases-loop-word : goal.decreases-loop-word
+decreases-loop-word l = length l.rest

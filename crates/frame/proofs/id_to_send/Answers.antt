@@ -1,0 +1,27 @@
+-- `frame::id_to_send` meets its contract: below ID18 a standard identifier has nothing but zeros. Assumes nothing.
+use Rattle.std.proofs.Common.{◌≡◌, false, arith}
+use Rattle.std.proofs.Math.Nat.{add-zero}
+use Rattle.base.specs.Bit.{bits}
+use Rattle.frame.specs.declared.Header.{Header}
+use Rattle.frame.specs.Tables.{id_to_send, id_bits}
+use Rattle.frame.proofs.id_to_send.Goals as goal
+
+module _ (h : Header) (standard : h.extended ≡ false) where
+  below_id18 : bits 17 15 (id_bits h) ≡ 0
+  unfolding id_bits
+  below_id18 = rw standard (omega arith)
+
+  below_id15 : bits 14 7 (id_bits h) ≡ 0
+  unfolding id_bits
+  below_id15 = rw standard (omega arith)
+
+  below_id7 : bits 6 0 (id_bits h) ≡ 0
+  unfolding id_bits
+  below_id7 = rw standard (omega arith)
+
+pub returns-else-h : goal.returns-else-h
+unfolding id_to_send
+returns-else-h c =
+    let h = c.args.h in
+    let standard = c.if-h.false in
+    rw (c.laid_out-else-h.ensures, below_id18 h standard, below_id15 h standard, below_id7 h standard, standard) (simp add-zero)
