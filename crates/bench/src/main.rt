@@ -9,7 +9,7 @@ use host::Outcome;
 use records::{Record, Results};
 use std::io::{Stdout, Write};
 
-// Standard input's number, which is what `io` reads from.
+// Standard input's number, which is what `io` reads from, all of it in one call; std's `read` gives a part at a time.
 const STDIN: i32 = 0;
 
 const MOST: usize = 3000;
@@ -37,7 +37,7 @@ fn run(input: &[u8], output: &mut Stdout) -> std::io::Result<()> {
     let (work, _) = work.as_chunks::<20>();
     let work = &work[..work.len().min(MOST)];
     let mut results = [[0; 17]; MOST];
-    let mut d = chip::fresh();
+    let mut d = Device::fresh();
     for _ in 0..u32::from_le_bytes(*rounds) {
         d = round(d, work, &mut results);
     }

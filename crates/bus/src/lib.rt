@@ -24,7 +24,7 @@ pub mod types;
 fn answered(d: Device, e: Event, b: Option<Brought>, hits: u8) -> Answer
     ensures { result ≡ answered d e b hits }
 {
-    if !chip::proper(d) {
+    if !d.proper() {
         return Err(Refusal::OutOfRange);
     }
     if judged::impossible(d, e) {
@@ -67,7 +67,7 @@ pub fn event(d: Device, e: Event, payload: [u8; 8]) -> Outcome
 pub fn hits(d: Device, h: Header, given: usize, payload: [u8; 8]) -> Result<u8, Refusal>
     ensures { result ≡ hits d h given payload }
 {
-    if !chip::proper(d) {
+    if !d.proper() {
         return Err(Refusal::OutOfRange);
     }
     if judged::impossible_frame(h, given) {
@@ -82,7 +82,7 @@ fn waiting_number(d: Device, k: u8) -> u64
     ensures { result ≡ waiting_number d k }
 {
     if k < d.rx.count {
-        d.serials.places[fifo::place(d.rx, k as u16)]
+        d.serials.places[d.rx.place(k as u16)]
     } else {
         0
     }
@@ -100,7 +100,7 @@ fn waiting_numbers(d: Device) -> [u64; 8]
 pub fn numbers(d: Device) -> Result<Numbers, Refusal>
     ensures { result ≡ numbers d }
 {
-    if !chip::proper(d) {
+    if !d.proper() {
         return Err(Refusal::OutOfRange);
     }
     Ok(Numbers {

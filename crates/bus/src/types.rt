@@ -21,7 +21,8 @@ pub struct Numbers {
     pub last: u64,
     // That of the frame in the temporary receive buffer.
     pub temp: u64,
-    // How many messages wait, and theirs, oldest first: a read takes the first. Zeros behind them.
+    // How many messages wait, and theirs, oldest first: a read takes the first. Zeros behind them, as the rule has it;
+    // nothing here has a heap.
     pub count: u8,
     pub waiting: [u64; 8],
 }

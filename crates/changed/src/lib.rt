@@ -33,18 +33,14 @@ fn unless_monitor(acting: u8, before: Counters, after: Counters) -> Counters
 fn counted_frame(c: Counters, acting: u8) -> Counters
     ensures { result ≡ counted_frame c acting }
 {
-    if acting == NORMAL {
-        counters::good_frame(c)
-    } else {
-        c
-    }
+    if acting == NORMAL { c.good_frame() } else { c }
 }
 
 #[tactic(auto, unfolding(crate::specs::Changed::counted_receive_error))]
 fn counted_receive_error(c: Counters, acting: u8) -> Counters
     ensures { result ≡ counted_receive_error c acting }
 {
-    unless_monitor(acting, c, counters::receive_error(c))
+    unless_monitor(acting, c, c.receive_error())
 }
 
 #[tactic(auto, unfolding(crate::specs::Changed::receive_error_met))]
@@ -61,7 +57,7 @@ fn dominant_met(d: Device) -> Device
     ensures { result ≡ dominant_met d }
 {
     let mut e = d;
-    e.counters = unless_monitor(d.acting, d.counters, counters::dominant_bit(d.counters));
+    e.counters = unless_monitor(d.acting, d.counters, d.counters.dominant_bit());
     e
 }
 
@@ -70,7 +66,7 @@ fn counted_transmit_error(c: Counters, acting: u8, counted: bool) -> Counters
     ensures { result ≡ counted_transmit_error c acting counted }
 {
     if counted {
-        unless_monitor(acting, c, counters::transmit_error(c))
+        unless_monitor(acting, c, c.transmit_error())
     } else {
         c
     }
@@ -90,14 +86,14 @@ fn recessive_met(d: Device) -> Device
     ensures { result ≡ recessive_met d }
 {
     let mut e = d;
-    e.counters = counters::eleven_recessive(d.counters, chip::bor(d));
+    e.counters = d.counters.eleven_recessive(d.bor());
     e
 }
 
 fn later(time: u16, count: u64) -> u16
     ensures { result ≡ (time + count) % 65536 }
 {
-    ((time as u64 + count % 65536) % 65536) as u16
+    time.wrapping_add((count % 65536) as u16)
 }
 
 #[tactic(auto, unfolding(crate::specs::Changed::ticked))]

@@ -2,8 +2,7 @@
 #![tactic(auto)]
 
 ghost use Rattle.std.specs.Prelude.{◌≡◌};
-ghost use Rattle.chip.specs.State.{fresh, mode_of, reset_bit, bor, wakeup, txen, tx1m, osm, filton, enabled, spent, bank};
-ghost use Rattle.chip.specs.Proper.{registers_in_range, sending_in_range, acting_in_range, proper};
+ghost use Rattle.chip.specs.State.{mode_of, reset_bit, osm, bank};
 
 use counters::Counters;
 use fifo::{Fifo, Message};
@@ -58,9 +57,10 @@ pub struct Registers {
 pub struct Serials {
     // The last that was given. No reset touches it.
     pub last: u64,
-    // That of the frame in the temporary receive buffer; 0 where there is none.
+    // That of the frame in the temporary receive buffer; 0 where there is none, which is what 02, g) has it read as.
     pub temp: u64,
-    // Those of the messages in the receive FIFO, each at its message's place.
+    // Those of the messages in the receive FIFO, each at its message's place. Beside the messages and not in them: the
+    // two other queues have no numbers, and 0x5A leaves these.
     pub places: [u64; 8],
 }
 
@@ -86,39 +86,6 @@ pub struct Device {
     pub acting: u8,
 }
 
-// The device after power-up.
-#[tactic(auto, unfolding(crate::specs::State::fresh))]
-pub fn fresh() -> Device
-    ensures { result ≡ fresh }
-{
-    let zeros = Pattern::default();
-    let none = Message::default();
-    Device {
-        regs: Registers {
-            ctrl0: 0x80,
-            ..Registers::default()
-        },
-        counters: Counters::default(),
-        // In full: with a derive for these too, the proof of the whole is not found.
-        serials: Serials {
-            last: 0,
-            temp: 0,
-            places: [0; 8],
-        },
-        filters: [zeros; 8],
-        masks: [zeros; 8],
-        rx: fifo::empty(),
-        temp: none,
-        tx: fifo::empty(),
-        buffer: none,
-        sending: IDLE,
-        history: fifo::empty(),
-        time: 0,
-        txenpin: false,
-        acting: INITIALIZATION,
-    }
-}
-
 // The mode that CTRL0's MODE bits name.
 #[tactic(auto, using(base::specs::Pick::picks, base::specs::Pick::judges), unfolding(crate::specs::State::mode_of))]
 pub fn mode_of(ctrl0: u8) -> u8
@@ -138,59 +105,11 @@ pub fn reset_bit(ctrl0: u8) -> bool
     base::is_set(3, ctrl0)
 }
 
-// CTRL0's BOR: bus off ends by itself.
-pub fn bor(d: Device) -> bool
-    ensures { result ≡ bor d }
-{
-    base::is_set(2, d.regs.ctrl0)
-}
-
-// CTRL0's WAKEUP: activity on the bus ends sleep.
-pub fn wakeup(d: Device) -> bool
-    ensures { result ≡ wakeup d }
-{
-    base::is_set(4, d.regs.ctrl0)
-}
-
-fn txen(d: Device) -> bool
-    ensures { result ≡ txen d }
-{
-    base::is_set(7, d.regs.ctrl1)
-}
-
-fn tx1m(d: Device) -> bool
-    ensures { result ≡ tx1m d }
-{
-    base::is_set(6, d.regs.ctrl1)
-}
-
 // CTRL1's OSM: one-shot mode.
 pub fn osm(ctrl1: u8) -> bool
     ensures { result ≡ osm ctrl1 }
 {
     base::is_set(5, ctrl1)
-}
-
-// CTRL1's FILTON: frames go through the filters.
-pub fn filton(d: Device) -> bool
-    ensures { result ≡ filton d }
-{
-    base::is_set(4, d.regs.ctrl1)
-}
-
-// Whether transmission is enabled: by TXEN, TX1M or the TXEN pin.
-#[tactic(auto, unfolding(crate::specs::State::enabled))]
-pub fn enabled(d: Device) -> bool
-    ensures { result ≡ enabled d }
-{
-    txen(d) | tx1m(d) | d.txenpin
-}
-
-// Whether the last arrival number of 64 bits has been given.
-pub fn spent(d: Device) -> bool
-    ensures { result ≡ spent d }
-{
-    d.serials.last == u64::MAX
 }
 
 // Filters or masks as the match takes them.
@@ -205,46 +124,136 @@ pub fn bank(patterns: [Pattern; 8]) -> [[u8; 6]; 8]
     )
 }
 
-#[tactic(auto, unfolding(crate::specs::Proper::registers_in_range))]
-fn registers_in_range(r: Registers) -> bool
-    ensures { result ≡ registers_in_range r }
-{
-    (r.errs <= 31) & (r.mtag <= 3)
-}
+impl Registers {
+    ghost use Rattle.chip.specs.Proper.{registers_in_range};
 
-#[tactic(auto, using(base::specs::Pick::picks, base::specs::Pick::judges), unfolding(crate::specs::Proper::sending_in_range))]
-fn sending_in_range(d: Device) -> bool
-    ensures { result ≡ sending_in_range d }
-{
-    if d.sending == FIRST_IN_FIFO {
-        1 <= d.tx.count
-    } else {
-        d.sending <= ALONE
+    #[tactic(auto, unfolding(crate::specs::Proper::registers_in_range))]
+    fn in_range(self) -> bool
+        ensures { result ≡ registers_in_range self }
+    {
+        (self.errs <= 31) & (self.mtag <= 3)
     }
 }
 
-#[tactic(auto, using(base::specs::Pick::picks, base::specs::Pick::judges), unfolding(crate::specs::Proper::acting_in_range))]
-fn acting_in_range(d: Device) -> bool
-    ensures { result ≡ acting_in_range d }
-{
-    let named = mode_of(d.regs.ctrl0);
-    if named == SLEEP {
-        d.acting <= INITIALIZATION
-    } else {
-        d.acting == named
-    }
-}
+impl Device {
+    ghost use Rattle.chip.specs.State.{fresh, bor, wakeup, txen, tx1m, filton, enabled, spent};
+    ghost use Rattle.chip.specs.Proper.{sending_in_range, acting_in_range, proper};
 
-// Whether every count, place and field is one that the chip can have: any other device is refused with 1.
-#[tactic(auto, unfolding(crate::specs::Proper::proper))]
-pub fn proper(d: Device) -> bool
-    ensures { result ≡ proper d }
-{
-    fifo::in_range(d.rx)
-        & fifo::in_range(d.tx)
-        & fifo::in_range(d.history)
-        & registers_in_range(d.regs)
-        & (d.counters.groups <= 128)
-        & sending_in_range(d)
-        & acting_in_range(d)
+    // The device after power-up.
+    #[tactic(auto, unfolding(crate::specs::State::fresh))]
+    pub fn fresh() -> Self
+        ensures { result ≡ fresh }
+    {
+        let zeros = Pattern::default();
+        let none = Message::default();
+        Self {
+            regs: Registers {
+                ctrl0: 0x80,
+                ..Registers::default()
+            },
+            counters: Counters::default(),
+            // In full: with a derive for these too, the proof of the whole is not found.
+            serials: Serials {
+                last: 0,
+                temp: 0,
+                places: [0; 8],
+            },
+            filters: [zeros; 8],
+            masks: [zeros; 8],
+            rx: Fifo::empty(),
+            temp: none,
+            tx: Fifo::empty(),
+            buffer: none,
+            sending: IDLE,
+            history: Fifo::empty(),
+            time: 0,
+            txenpin: false,
+            acting: INITIALIZATION,
+        }
+    }
+
+    // CTRL0's BOR: bus off ends by itself.
+    pub fn bor(self) -> bool
+        ensures { result ≡ bor self }
+    {
+        base::is_set(2, self.regs.ctrl0)
+    }
+
+    // CTRL0's WAKEUP: activity on the bus ends sleep.
+    pub fn wakeup(self) -> bool
+        ensures { result ≡ wakeup self }
+    {
+        base::is_set(4, self.regs.ctrl0)
+    }
+
+    fn txen(self) -> bool
+        ensures { result ≡ txen self }
+    {
+        base::is_set(7, self.regs.ctrl1)
+    }
+
+    fn tx1m(self) -> bool
+        ensures { result ≡ tx1m self }
+    {
+        base::is_set(6, self.regs.ctrl1)
+    }
+
+    // CTRL1's FILTON: frames go through the filters.
+    pub fn filton(self) -> bool
+        ensures { result ≡ filton self }
+    {
+        base::is_set(4, self.regs.ctrl1)
+    }
+
+    // Whether transmission is enabled: by TXEN, TX1M or the TXEN pin.
+    #[tactic(auto, unfolding(crate::specs::State::enabled))]
+    pub fn enabled(self) -> bool
+        ensures { result ≡ enabled self }
+    {
+        self.txen() | self.tx1m() | self.txenpin
+    }
+
+    // Whether the last arrival number of 64 bits has been given.
+    pub fn spent(self) -> bool
+        ensures { result ≡ spent self }
+    {
+        self.serials.last == u64::MAX
+    }
+
+    #[tactic(auto, using(base::specs::Pick::picks, base::specs::Pick::judges), unfolding(crate::specs::Proper::sending_in_range))]
+    fn sending_in_range(self) -> bool
+        ensures { result ≡ sending_in_range self }
+    {
+        if self.sending == FIRST_IN_FIFO {
+            1 <= self.tx.count
+        } else {
+            self.sending <= ALONE
+        }
+    }
+
+    #[tactic(auto, using(base::specs::Pick::picks, base::specs::Pick::judges), unfolding(crate::specs::Proper::acting_in_range))]
+    fn acting_in_range(self) -> bool
+        ensures { result ≡ acting_in_range self }
+    {
+        let named = mode_of(self.regs.ctrl0);
+        if named == SLEEP {
+            self.acting <= INITIALIZATION
+        } else {
+            self.acting == named
+        }
+    }
+
+    // Whether every count, place and field is one that the chip can have: any other device is refused with 1.
+    #[tactic(auto, unfolding(crate::specs::Proper::proper))]
+    pub fn proper(self) -> bool
+        ensures { result ≡ proper self }
+    {
+        self.rx.in_range()
+            & self.tx.in_range()
+            & self.history.in_range()
+            & self.regs.in_range()
+            & (self.counters.groups <= 128)
+            & self.sending_in_range()
+            & self.acting_in_range()
+    }
 }

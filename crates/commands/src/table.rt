@@ -4,7 +4,7 @@ use crate::verb;
 pub(crate) const COUNT: usize = 69;
 
 // Command, fewest and most bytes after it, bytes of its reply, what it is for, and of which filter or mask. As numbers
-// a row is one line; a `Row` that is written out takes eight.
+// a row is one line; a `Row` that is written out takes eight, and a constant can't call a function that builds it.
 pub(crate) const ROWS: [[u8; 6]; COUNT] = [
     [0x42, 0, 0, 15, verb::READ_TEMPORARY_WITH_TIME, 0],
     [0x44, 0, 0, 13, verb::READ_TEMPORARY, 0],

@@ -9,23 +9,23 @@ use crate::Counters;
 pub fn receive_error(c: &mut Counters)
     ensures { c.new ≡ receive_error c.old }
 {
-    *c = crate::receive_error(*c);
+    *c = c.receive_error();
 }
 
 pub fn good_frame(c: &mut Counters)
     ensures { c.new ≡ good_frame c.old }
 {
-    *c = crate::good_frame(*c);
+    *c = c.good_frame();
 }
 
 pub fn transmit_error(c: &mut Counters)
     ensures { c.new ≡ transmit_error c.old }
 {
-    *c = crate::transmit_error(*c);
+    *c = c.transmit_error();
 }
 
 pub fn completed(c: &mut Counters)
     ensures { c.new ≡ completed c.old }
 {
-    *c = crate::completed(*c);
+    *c = c.completed();
 }

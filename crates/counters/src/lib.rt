@@ -3,8 +3,6 @@
 #![tactic(auto)]
 
 ghost use Rattle.std.specs.Prelude.{◌≡◌};
-ghost use Rattle.counters.specs.Rules.{receive_error, dominant_bit, good_frame, transmit_error, completed};
-ghost use Rattle.counters.specs.Rules.{eleven_recessive, test_rec, test_tec};
 
 pub mod lent;
 
@@ -17,106 +15,115 @@ pub struct Counters {
     pub groups: u8,
 }
 
-#[tactic(auto, unfolding(crate::specs::Rules::receive_error))]
-pub fn receive_error(c: Counters) -> Counters
-    ensures { result ≡ receive_error c }
-{
-    Counters {
-        rec: c.rec.saturating_add(1),
-        ..c
-    }
-}
+impl Counters {
+    ghost use Rattle.counters.specs.Rules.{receive_error, dominant_bit, good_frame, transmit_error, completed};
+    ghost use Rattle.counters.specs.Rules.{eleven_recessive, test_rec, test_tec};
 
-#[tactic(auto, unfolding(crate::specs::Rules::dominant_bit))]
-pub fn dominant_bit(c: Counters) -> Counters
-    ensures { result ≡ dominant_bit c }
-{
-    Counters {
-        rec: c.rec.saturating_add(8),
-        ..c
-    }
-}
-
-// CAN 2.0B lets REC come down from 128 and above to 119 to 127; the house rules 119.
-#[tactic(auto, unfolding(crate::specs::Rules::good_frame))]
-pub fn good_frame(c: Counters) -> Counters
-    ensures { result ≡ good_frame c }
-{
-    if c.rec < 128 {
-        Counters {
-            rec: c.rec.saturating_sub(1),
-            ..c
-        }
-    } else {
-        Counters { rec: 119, ..c }
-    }
-}
-
-// A transmit error that CAN 2.0B counts.
-#[tactic(auto, using(base::specs::Pick::picks), unfolding(crate::specs::Rules::transmit_error))]
-pub fn transmit_error(c: Counters) -> Counters
-    ensures { result ≡ transmit_error c }
-{
-    if c.busoff {
-        c
-    } else if 247 < c.tec {
-        // Eight more pass 255.
-        Counters {
-            tec: 255,
-            busoff: true,
-            groups: 0,
-            ..c
-        }
-    } else {
-        Counters {
-            tec: c.tec + 8,
-            ..c
+    #[tactic(auto, unfolding(crate::specs::Rules::receive_error))]
+    pub fn receive_error(self) -> Self
+        ensures { result ≡ receive_error self }
+    {
+        Self {
+            rec: self.rec.saturating_add(1),
+            ..self
         }
     }
-}
 
-#[tactic(auto, using(base::specs::Pick::picks), unfolding(crate::specs::Rules::completed))]
-pub fn completed(c: Counters) -> Counters
-    ensures { result ≡ completed c }
-{
-    if c.busoff {
-        c
-    } else {
-        Counters {
-            tec: c.tec.saturating_sub(1),
-            ..c
+    #[tactic(auto, unfolding(crate::specs::Rules::dominant_bit))]
+    pub fn dominant_bit(self) -> Self
+        ensures { result ≡ dominant_bit self }
+    {
+        Self {
+            rec: self.rec.saturating_add(8),
+            ..self
         }
     }
-}
 
-// Eleven recessive bits, with 000's BOR bit for automatic recovery.
-#[tactic(auto, using(base::specs::Pick::picks), unfolding(crate::specs::Rules::eleven_recessive))]
-pub fn eleven_recessive(c: Counters, bor: bool) -> Counters
-    ensures { result ≡ eleven_recessive c bor }
-{
-    if !c.busoff {
-        return c;
+    // CAN 2.0B lets REC come down from 128 and above to 119 to 127; the house rules 119.
+    #[tactic(auto, unfolding(crate::specs::Rules::good_frame))]
+    pub fn good_frame(self) -> Self
+        ensures { result ≡ good_frame self }
+    {
+        if self.rec < 128 {
+            Self {
+                rec: self.rec.saturating_sub(1),
+                ..self
+            }
+        } else {
+            Self { rec: 119, ..self }
+        }
     }
-    let groups = c.groups.saturating_add(1).min(128);
-    if (groups == 128) & bor {
-        Counters::default()
-    } else {
-        Counters { groups, ..c }
+
+    // A transmit error that CAN 2.0B counts.
+    #[tactic(auto, using(base::specs::Pick::picks), unfolding(crate::specs::Rules::transmit_error))]
+    pub fn transmit_error(self) -> Self
+        ensures { result ≡ transmit_error self }
+    {
+        if self.busoff {
+            self
+        } else if 247 < self.tec {
+            // Eight more pass 255.
+            Self {
+                tec: 255,
+                busoff: true,
+                groups: 0,
+                ..self
+            }
+        } else {
+            Self {
+                tec: self.tec + 8,
+                ..self
+            }
+        }
     }
-}
 
-// The test write 0x24.
-#[tactic(auto, unfolding(crate::specs::Rules::test_rec))]
-pub fn test_rec(c: Counters, rec: u8) -> Counters
-    ensures { result ≡ test_rec c rec }
-{
-    Counters { rec, ..c }
-}
+    #[tactic(auto, using(base::specs::Pick::picks), unfolding(crate::specs::Rules::completed))]
+    pub fn completed(self) -> Self
+        ensures { result ≡ completed self }
+    {
+        if self.busoff {
+            self
+        } else {
+            Self {
+                tec: self.tec.saturating_sub(1),
+                ..self
+            }
+        }
+    }
 
-// The test write 0x26.
-#[tactic(auto, using(base::specs::Pick::picks), unfolding(crate::specs::Rules::test_tec))]
-pub fn test_tec(c: Counters, tec: u8) -> Counters
-    ensures { result ≡ test_tec c tec }
-{
-    if c.busoff { c } else { Counters { tec, ..c } }
+    // Eleven recessive bits, with 000's BOR bit for automatic recovery.
+    #[tactic(auto, using(base::specs::Pick::picks), unfolding(crate::specs::Rules::eleven_recessive))]
+    pub fn eleven_recessive(self, bor: bool) -> Self
+        ensures { result ≡ eleven_recessive self bor }
+    {
+        if !self.busoff {
+            return self;
+        }
+        let groups = self.groups.saturating_add(1).min(128);
+        if (groups == 128) & bor {
+            Self::default()
+        } else {
+            Self { groups, ..self }
+        }
+    }
+
+    // The test write 0x24.
+    #[tactic(auto, unfolding(crate::specs::Rules::test_rec))]
+    pub fn test_rec(self, rec: u8) -> Self
+        ensures { result ≡ test_rec self rec }
+    {
+        Self { rec, ..self }
+    }
+
+    // The test write 0x26.
+    #[tactic(auto, using(base::specs::Pick::picks), unfolding(crate::specs::Rules::test_tec))]
+    pub fn test_tec(self, tec: u8) -> Self
+        ensures { result ≡ test_tec self tec }
+    {
+        if self.busoff {
+            self
+        } else {
+            Self { tec, ..self }
+        }
+    }
 }

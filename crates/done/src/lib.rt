@@ -6,7 +6,7 @@ ghost use Rattle.done.specs.Done.{pattern, registers_after, message_written, doe
 
 use chip::{Device, Pattern, Registers};
 use commands::verb;
-use fifo::Message;
+use fifo::{Fifo, Message};
 
 // The six bytes that a filter or mask write brings.
 #[tactic(auto, using(base::specs::Pick::picks, base::specs::Pick::judges), unfolding(crate::specs::Done::pattern))]
@@ -45,9 +45,9 @@ fn message_written(d: Device, bytes: &[u8]) -> Device
         return d;
     }
     let message = to_send::message_of(&bytes[1..]).unwrap_or_default();
-    let bytes = to_send::stored(message);
+    let bytes = message.stored();
     Device {
-        tx: fifo::put(d.tx, Message { bytes }),
+        tx: d.tx.put(Message { bytes }),
         ..d
     }
 }
@@ -61,7 +61,8 @@ fn with_pattern(bank: [Pattern; 8], k: u8, p: Pattern) -> [Pattern; 8]
     patterns
 }
 
-// The device after a command, whose bytes are these with the command byte.
+// The device after a command, whose bytes are these with the command byte, by the verb that stands in the command's
+// row: the dispatch that 01 names.
 #[tactic(auto, using(base::specs::Pick::picks, base::specs::Pick::judges), unfolding(crate::specs::Done::does, crate::specs::Done::message_taken, crate::specs::Done::entry_taken, crate::specs::Done::receive_cleared, crate::specs::Done::time_reset, crate::specs::Done::filter_written, crate::specs::Done::mask_written, crate::specs::Done::rec_written, crate::specs::Done::tec_written, crate::specs::Done::register_changed))]
 pub fn does(d: Device, v: u8, k: u8, bytes: &[u8]) -> Device
     ensures { result ≡ does d v k bytes.now }
@@ -72,11 +73,11 @@ pub fn does(d: Device, v: u8, k: u8, bytes: &[u8]) -> Device
         | verb::READ_MESSAGE
         | verb::READ_DATA_WITH_TIME
         | verb::READ_DATA => Device {
-            rx: fifo::take(d.rx),
+            rx: d.rx.take(),
             ..d
         },
         verb::READ_HISTORY => Device {
-            history: fifo::take(d.history),
+            history: d.history.take(),
             ..d
         },
         verb::ABORT_TRANSMISSION => transmit::aborted(d),
@@ -84,17 +85,17 @@ pub fn does(d: Device, v: u8, k: u8, bytes: &[u8]) -> Device
         verb::MASTER_RESET => flags::reset(d),
         verb::RESET_TIME => Device { time: 0, ..d },
         verb::CLEAR_RECEIVE => Device {
-            rx: fifo::empty(),
+            rx: Fifo::empty(),
             ..d
         },
         verb::WRITE_MESSAGE => message_written(d, bytes),
         verb::WRITE_CTRL0 => modes::ctrl0_written(d, value),
         verb::WRITE_REC => Device {
-            counters: counters::test_rec(d.counters, value),
+            counters: d.counters.test_rec(value),
             ..d
         },
         verb::WRITE_TEC => Device {
-            counters: counters::test_tec(d.counters, value),
+            counters: d.counters.test_tec(value),
             ..d
         },
         verb::WRITE_FILTER => Device {

@@ -12,14 +12,14 @@ pub fn statf(d: Device) -> u8
     ensures { result ≡ statf d }
 {
     let c = d.counters;
-    base::flag(fifo::is_empty(d.tx)) * 128
-        + base::flag(fifo::full(d.tx)) * 64
-        + base::flag(fifo::full(d.history)) * 32
+    base::flag(d.tx.is_empty()) * 128
+        + base::flag(d.tx.full()) * 64
+        + base::flag(d.history.full()) * 32
         + base::flag(levels::errw(c)) * 16
         + base::flag(levels::errp(c)) * 8
         + base::flag(c.busoff) * 4
-        + base::flag(fifo::is_empty(d.rx)) * 2
-        + base::flag(fifo::full(d.rx))
+        + base::flag(d.rx.is_empty()) * 2
+        + base::flag(d.rx.full())
 }
 
 // The error register.
@@ -36,9 +36,9 @@ fn tstat(d: Device) -> u8
 {
     if d.sending != IDLE {
         3
-    } else if !chip::enabled(d) {
+    } else if !d.enabled() {
         0
-    } else if fifo::is_empty(d.tx) {
+    } else if d.tx.is_empty() {
         1
     } else {
         2

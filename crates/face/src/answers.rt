@@ -19,7 +19,7 @@ pub struct Answering {
 impl Answering {
     pub(crate) fn new() -> Answering {
         Answering {
-            device: chip::fresh(),
+            device: Device::fresh(),
         }
     }
 }
@@ -41,7 +41,7 @@ impl Task for Answering {
             // The device comes from a fresh one, so that this is never refused.
             Asked::Numbers => match bus::numbers(self.device) {
                 Ok(numbers) => page.line(Given(numbers)),
-                Err(refusal) => page.line(refusal.number()),
+                Err(refusal) => page.line(refusal),
             },
             Asked::Hits(h, given) => {
                 let hits = bus::hits(self.device, h, given, device::payload(&line));
@@ -65,7 +65,7 @@ impl<T: fmt::Display> fmt::Display for Answered<T> {
     fn fmt<W: fmt::Write>(&self, f: &mut fmt::Formatter<W>) -> fmt::Result {
         match &self.0 {
             Ok(said) => write!(f, "0{said}"),
-            Err(refusal) => write!(f, "{}", refusal.number()),
+            Err(refusal) => write!(f, "{refusal}"),
         }
     }
 }

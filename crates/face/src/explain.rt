@@ -25,7 +25,7 @@ pub struct Explaining {
 impl Explaining {
     pub(crate) fn new() -> Explaining {
         Explaining {
-            device: chip::fresh(),
+            device: Device::fresh(),
             last: None,
         }
     }
@@ -62,7 +62,7 @@ impl Task for Explaining {
             page.line(Unreadable::new(expected, &waited.line, number));
         }
         if let Err(refusal) = self.follow(&waited.line) {
-            page.line(format_args!("line {number}: {}", refusal.number()));
+            page.line(format_args!("line {number}: {refusal}"));
         }
     }
 

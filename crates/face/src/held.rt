@@ -7,11 +7,13 @@ const SIZE: usize = 65536;
 #[derive(Drop)]
 pub struct Held {
     bytes: [u8; SIZE],
-    // How many there are, as long as they fit.
+    // How many there are, as long as they fit; nothing here has a heap.
     length: Option<usize>,
+    // A state of the line, whatever of it is held.
     commented: bool,
 }
 
+// As `line` has it, which says no more of it than that its words are parted so.
 fn is_blank(b: u8) -> bool {
     matches!(b, b' ' | b'\t' | b'\r')
 }

@@ -7,7 +7,8 @@ use std::io::{self, Stdout, Write as _};
 
 const SIZE: usize = 65536;
 
-// An answer is shorter than what is left past here.
+// An answer is shorter than what is left past here. What is told at a script's end is longer and finds room, since the
+// page was written when the last chunk was done.
 const NEARLY_FULL: usize = 65000;
 
 #[derive(Drop)]

@@ -22,14 +22,14 @@ fn answer(d: Device, answer: Answer, page: &mut Page) {
         Ok(Some(Arrival::A1)) => page.line(format_args!("A1, {}", mode(d))),
         Ok(Some(what)) => page.line(Word(what)),
         Ok(None) => page.line("0"),
-        Err(refusal) => page.line(refusal.number()),
+        Err(refusal) => page.line(refusal),
     }
 }
 
 // The modes that take no frames are told apart, since what helps differs.
 fn mode(d: Device) -> &'static str {
     match d.acting {
-        SLEEP if chip::wakeup(d) => "sleep with WAKEUP",
+        SLEEP if d.wakeup() => "sleep with WAKEUP",
         SLEEP => "sleep",
         LOOPBACK => "loopback",
         _ => "initialization",

@@ -20,7 +20,7 @@ pub struct Script<T> {
     held: Held,
     page: Page,
     output: Stdout,
-    // The input ended, or a write failed.
+    // The input ended, or a write failed, which is not told: the status stays 0.
     over: bool,
 }
 
@@ -91,7 +91,7 @@ impl<T: Task + Drop> Script<T> {
     }
 
     // A proved loop has to end, and nothing says that the input does. So the loop counts its turns, up to a number
-    // that no run reaches.
+    // that no run reaches: a loop without end would need `Wait`, a word more than HANDLES has.
     pub(crate) fn run(mut self, input: &mut Stdin) -> Result<()> {
         for _ in 0..u64::MAX {
             self.turn(input)?;

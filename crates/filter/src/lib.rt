@@ -25,6 +25,7 @@ fn counted(mut mask: [u8; 6]) -> [u8; 6]
     mask
 }
 
+// The frame's bytes, a filter and its mask stand by themselves, as the banks do.
 #[tactic(auto, unfolding(crate::specs::Match::matches))]
 pub fn matches(vector: [u8; 6], filter: [u8; 6], mask: [u8; 6]) -> bool
     ensures { result ≡ matches vector filter mask }
@@ -37,8 +38,8 @@ pub fn matches(vector: [u8; 6], filter: [u8; 6], mask: [u8; 6]) -> bool
         .all(|((v, f), m)| byte_agrees(*v, *f, *m))
 }
 
-// Which filters match, as one byte: bit k is set exactly if filter k does. 01 names the banks' form: by value, eight
-// arrays of six bytes.
+// Which filters match, as one byte: bit k is set exactly if filter k does, so that k is a place and a bit. 01 names the
+// banks' form: by value, eight arrays of six bytes.
 #[tactic(auto, unfolding(crate::specs::Hits::hits))]
 pub fn hits(bank: [[u8; 6]; 8], masks: [[u8; 6]; 8], vector: [u8; 6]) -> u8
     ensures { result ≡ hits bank masks vector }

@@ -7,7 +7,8 @@ ghost use Rattle.flags.specs.Reset.{reset};
 
 use chip::{Device, Registers, Serials};
 
-// The interrupt flags that a step raises.
+// The interrupt flags that a step raises: bits of a register, so that several rise at once. `raised` and `bus_error`
+// take any byte.
 pub const RXTMP: u8 = 128;
 
 pub const RXFIFO: u8 = 64;
@@ -49,7 +50,7 @@ pub fn bus_error(d: Device, bit: u8) -> Device
 pub fn reset(d: Device) -> Device
     ensures { result ≡ reset d }
 {
-    let fresh = chip::fresh();
+    let fresh = Device::fresh();
     let filters = d.filters;
     let masks = d.masks;
     Device {

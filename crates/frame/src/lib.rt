@@ -5,11 +5,9 @@
 mod identifier;
 
 ghost use Rattle.std.specs.Prelude.{◌≡◌};
-ghost use Rattle.frame.specs.Length.{data_length, data_bytes, possible, data_fits, data_of};
-ghost use Rattle.frame.specs.Tables.{id_to_send, id_as_read, compared, id_from};
-ghost use Rattle.frame.specs.Received.{received, header_in, data_in};
-
-use identifier::laid_out;
+ghost use Rattle.frame.specs.Length.{data_length};
+ghost use Rattle.frame.specs.Tables.{id_from};
+ghost use Rattle.frame.specs.Received.{header_in, data_in};
 
 // What a frame says before its data.
 #[derive(Clone, Copy, Debug, Default, PartialEq, Eq)]
@@ -52,89 +50,99 @@ pub fn data_length(code: u8) -> usize
     if code <= 8 { usize::from(code) } else { 8 }
 }
 
-// How many data bytes a frame with this header has.
-#[tactic(auto, unfolding(crate::specs::Length::data_bytes))]
-pub fn data_bytes(h: Header) -> usize
-    ensures { result ≡ data_bytes h }
-{
-    if h.remote { 0 } else { data_length(h.code) }
-}
+impl Header {
+    ghost use Rattle.frame.specs.Length.{data_bytes, possible, data_fits, data_of};
+    ghost use Rattle.frame.specs.Tables.{id_to_send, id_as_read, compared};
+    ghost use Rattle.frame.specs.Received.{received};
 
-// Whether a frame can have this header at all.
-#[tactic(auto, unfolding(crate::specs::Length::possible))]
-pub fn possible(h: Header) -> bool
-    ensures { result ≡ possible h }
-{
-    let ids = if h.extended { EXTENDED } else { STANDARD };
-    (h.id < ids) & (h.code <= 15)
-}
-
-// Whether as many data bytes were given as the header asks for.
-#[tactic(auto, unfolding(crate::specs::Length::data_fits))]
-pub fn data_fits(h: Header, given: usize) -> bool
-    ensures { result ≡ data_fits h given }
-{
-    given == data_bytes(h)
-}
-
-// A frame's data in eight bytes; those that it lacks are zero.
-#[tactic(auto, using(crate::proofs::Data::copies))]
-fn data_of(h: Header, payload: [u8; 8]) -> [u8; 8]
-    ensures { result ≡ data_of h payload }
-{
-    let mut data = [0; 8];
-    base::put(&payload[..data_bytes(h)], &mut data);
-    data
-}
-
-// The identifier in 0x12: Table 2. For whoever writes a message, a driver or another caller: no crate here calls it,
-// and 01's worked numbers are computed from its definition.
-#[tactic(auto, unfolding(crate::specs::Tables::id_to_send))]
-pub fn id_to_send(h: Header) -> IdBytes
-    ensures { result ≡ id_to_send h }
-{
-    if h.extended {
-        IdBytes {
-            bytes: laid_out(h, true, true, h.remote),
-            count: 4,
-        }
-    } else {
-        IdBytes {
-            bytes: laid_out(h, h.remote, false, false),
-            count: 2,
+    // How many data bytes a frame with this header has.
+    #[tactic(auto, unfolding(crate::specs::Length::data_bytes))]
+    pub fn data_bytes(self) -> usize
+        ensures { result ≡ data_bytes self }
+    {
+        if self.remote {
+            0
+        } else {
+            data_length(self.code)
         }
     }
-}
 
-// The identifier as 0x42 to 0x48 read it: Table 5, bytes 4 to 7.
-#[tactic(auto, unfolding(crate::specs::Tables::id_as_read))]
-pub fn id_as_read(h: Header) -> [u8; 4]
-    ensures { result ≡ id_as_read h }
-{
-    laid_out(h, h.extended, h.extended, h.remote)
-}
+    // Whether a frame can have this header at all.
+    #[tactic(auto, unfolding(crate::specs::Length::possible))]
+    pub fn possible(self) -> bool
+        ensures { result ≡ possible self }
+    {
+        let ids = if self.extended { EXTENDED } else { STANDARD };
+        (self.id < ids) & (self.code <= 15)
+    }
 
-// What the filters are held against: Table 4a.
-#[tactic(auto, unfolding(crate::specs::Tables::compared))]
-pub fn compared(h: Header, payload: [u8; 8]) -> [u8; 6]
-    ensures { result ≡ compared h payload }
-{
-    let [a, b, c, d] = laid_out(h, h.remote, h.extended, false);
-    let [first, second, ..] = data_of(h, payload);
-    [a, b, c, d, first, second]
-}
+    // Whether as many data bytes were given as the header asks for.
+    #[tactic(auto, unfolding(crate::specs::Length::data_fits))]
+    pub fn data_fits(self, given: usize) -> bool
+        ensures { result ≡ data_fits self given }
+    {
+        given == self.data_bytes()
+    }
 
-// A received message: Table 5, all sixteen bytes.
-pub fn received(h: Header, payload: [u8; 8], time: u16, filhit: u8) -> [u8; 16]
-    ensures { result ≡ received h payload time filhit }
-{
-    let mut m = [0; 16];
-    m[0] = base::flag(h.extended) * 128 + filhit % 8;
-    m[1..3].copy_from_slice(&time.to_be_bytes());
-    m[3..7].copy_from_slice(&id_as_read(h));
-    m[7] = h.code % 16;
-    m[8..].copy_from_slice(&data_of(h, payload));
-    m
+    // A frame's data in eight bytes; those that it lacks are zero.
+    #[tactic(auto, using(crate::proofs::Data::copies))]
+    fn data_of(self, payload: [u8; 8]) -> [u8; 8]
+        ensures { result ≡ data_of self payload }
+    {
+        let mut data = [0; 8];
+        base::put(&payload[..self.data_bytes()], &mut data);
+        data
+    }
+
+    // The identifier in 0x12: Table 2. For whoever writes a message, a driver or another caller: no crate here calls
+    // it, and 01's worked numbers are computed from its definition.
+    #[tactic(auto, unfolding(crate::specs::Tables::id_to_send))]
+    pub fn id_to_send(self) -> IdBytes
+        ensures { result ≡ id_to_send self }
+    {
+        if self.extended {
+            IdBytes {
+                bytes: self.laid_out(true, true, self.remote),
+                count: 4,
+            }
+        } else {
+            IdBytes {
+                bytes: self.laid_out(self.remote, false, false),
+                count: 2,
+            }
+        }
+    }
+
+    // The identifier as 0x42 to 0x48 read it: Table 5, bytes 4 to 7.
+    #[tactic(auto, unfolding(crate::specs::Tables::id_as_read))]
+    pub fn id_as_read(self) -> [u8; 4]
+        ensures { result ≡ id_as_read self }
+    {
+        self.laid_out(self.extended, self.extended, self.remote)
+    }
+
+    // What the filters are held against: Table 4a.
+    #[tactic(auto, unfolding(crate::specs::Tables::compared))]
+    pub fn compared(self, payload: [u8; 8]) -> [u8; 6]
+        ensures { result ≡ compared self payload }
+    {
+        let [a, b, c, d] = self.laid_out(self.remote, self.extended, false);
+        let [first, second, ..] = self.data_of(payload);
+        [a, b, c, d, first, second]
+    }
+
+    // A received message: Table 5, all sixteen bytes.
+    pub fn received(self, payload: [u8; 8], time: u16, filhit: u8) -> [u8; 16]
+        ensures { result ≡ received self payload time filhit }
+    {
+        let mut m = [0; 16];
+        m[0] = base::flag(self.extended) * 128 + filhit % 8;
+        m[1..3].copy_from_slice(&time.to_be_bytes());
+        m[3..7].copy_from_slice(&self.id_as_read());
+        m[7] = self.code % 16;
+        m[8..].copy_from_slice(&self.data_of(payload));
+        m
+    }
 }
 
 // ID28 to ID0 from their four bytes.

@@ -8,6 +8,7 @@ ghost use Rattle.host.specs.Transfer.{transfer, reply_after};
 use chip::Device;
 use refusal::Refusal;
 
+// The bus's door has its own: one for both would stand in a crate below them, for two fields.
 #[derive(Clone, Copy)]
 pub struct Outcome {
     pub device: Device,

@@ -38,7 +38,7 @@ fn runs(d: Device) -> bool
 pub fn impossible_frame(h: Header, given: usize) -> bool
     ensures { result ≡ impossible_frame h given }
 {
-    !(frame::possible(h) & frame::data_fits(h, given))
+    !(h.possible() & h.data_fits(given))
 }
 
 // 8: impossible fields, or an impossible time.
@@ -117,7 +117,7 @@ fn gives_number(told: Option<Arrival>) -> bool
 pub fn no_number_left(d: Device, told: Option<Arrival>) -> bool
     ensures { result ≡ no_number_left d told }
 {
-    gives_number(told) & chip::spent(d)
+    gives_number(told) & d.spent()
 }
 
 #[tactic(auto, unfolding(crate::specs::Judged::bus_frame))]

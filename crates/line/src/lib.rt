@@ -49,7 +49,8 @@ pub enum Asked {
     Numbers,
     // Which filters a frame hits: its header, and how many data bytes the line has.
     Hits(Header, usize),
-    // An answer like the others: `read_line` takes any line.
+    // In the line and no error beside it: the word that stood there has to outlive the buffer that it was read in, and
+    // nothing here has a heap.
     Unreadable(Expected),
 }
 

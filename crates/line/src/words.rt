@@ -44,7 +44,8 @@ fn letters(s: &[u8]) -> usize
     s.iter().take_while(|&&b| !is_blank(b)).count()
 }
 
-// The first word and what follows it. With no word left, the word is empty.
+// The first word and what follows it, which std's `split` doesn't give. With no word left, the word is empty. Each
+// caller says itself what it takes the word for: one function of that would have to carry its rule as a ghost.
 pub(crate) fn next_word(s: &[u8]) -> (&[u8], &[u8])
     ensures { Cut s.now result.0.now result.1.now }
 {

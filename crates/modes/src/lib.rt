@@ -43,7 +43,7 @@ fn can_sleep(d: Device) -> bool
 {
     (chip::mode_of(d.regs.ctrl0) == SLEEP)
         & (d.acting != SLEEP)
-        & fifo::is_empty(d.tx)
+        & d.tx.is_empty()
         & (d.sending == IDLE)
 }
 
@@ -64,7 +64,7 @@ pub fn bus_quiet(d: Device) -> Device
 pub fn bus_activity(d: Device) -> Device
     ensures { result ≡ bus_activity d }
 {
-    if (d.acting == SLEEP) & chip::wakeup(d) {
+    if (d.acting == SLEEP) & d.wakeup() {
         let mut e = d;
         // MODE is 010 and the lower bits stay.
         e.regs.ctrl0 = e.regs.ctrl0 % 32 + 64;

@@ -1,40 +1,41 @@
 -- One result for each public function of counters, levels and fifo. `Frames` says how to read a line.
 use Rattle.std.specs.Prelude.{refl}
 use Rattle.counters.specs.Rules
-use Rattle.counters.specs.contracts.Counters
 use Rattle.levels.specs.Levels
 use Rattle.fifo.specs.Queue
 use Rattle.counters.specs.contracts as counters
+use Rattle.counters.specs.contracts.Counters
 use Rattle.levels.specs.contracts as levels
 use Rattle.fifo.specs.contracts as fifo
+use Rattle.fifo.specs.contracts.Fifo
 use Rattle.one.specs.Law.{OneResult}
 use Rattle.one.specs.Shapes.{result, lent}
 
 module _ (M : Type 1) where
   -- ---- counters
-  pub counters-receive_error : OneResult M counters.receive_error.ended (λ _. counters.receive_error.spec)
-  counters-receive_error = result (λ _. counters.receive_error.clauses) (λ _. Rules.receive_error) refl
+  pub Counters-receive_error : OneResult M Counters.receive_error.ended (λ _. Counters.receive_error.spec)
+  Counters-receive_error = result (λ _. Counters.receive_error.clauses) (λ _. Rules.receive_error) refl
 
-  pub counters-dominant_bit : OneResult M counters.dominant_bit.ended (λ _. counters.dominant_bit.spec)
-  counters-dominant_bit = result (λ _. counters.dominant_bit.clauses) (λ _. Rules.dominant_bit) refl
+  pub Counters-dominant_bit : OneResult M Counters.dominant_bit.ended (λ _. Counters.dominant_bit.spec)
+  Counters-dominant_bit = result (λ _. Counters.dominant_bit.clauses) (λ _. Rules.dominant_bit) refl
 
-  pub counters-good_frame : OneResult M counters.good_frame.ended (λ _. counters.good_frame.spec)
-  counters-good_frame = result (λ _. counters.good_frame.clauses) (λ _. Rules.good_frame) refl
+  pub Counters-good_frame : OneResult M Counters.good_frame.ended (λ _. Counters.good_frame.spec)
+  Counters-good_frame = result (λ _. Counters.good_frame.clauses) (λ _. Rules.good_frame) refl
 
-  pub counters-transmit_error : OneResult M counters.transmit_error.ended (λ _. counters.transmit_error.spec)
-  counters-transmit_error = result (λ _. counters.transmit_error.clauses) (λ _. Rules.transmit_error) refl
+  pub Counters-transmit_error : OneResult M Counters.transmit_error.ended (λ _. Counters.transmit_error.spec)
+  Counters-transmit_error = result (λ _. Counters.transmit_error.clauses) (λ _. Rules.transmit_error) refl
 
-  pub counters-completed : OneResult M counters.completed.ended (λ _. counters.completed.spec)
-  counters-completed = result (λ _. counters.completed.clauses) (λ _. Rules.completed) refl
+  pub Counters-completed : OneResult M Counters.completed.ended (λ _. Counters.completed.spec)
+  Counters-completed = result (λ _. Counters.completed.clauses) (λ _. Rules.completed) refl
 
-  pub counters-eleven_recessive : OneResult M counters.eleven_recessive.ended (λ _. counters.eleven_recessive.spec)
-  counters-eleven_recessive = result (λ _. counters.eleven_recessive.clauses) (λ _. Rules.eleven_recessive) refl
+  pub Counters-eleven_recessive : OneResult M Counters.eleven_recessive.ended (λ _. Counters.eleven_recessive.spec)
+  Counters-eleven_recessive = result (λ _. Counters.eleven_recessive.clauses) (λ _. Rules.eleven_recessive) refl
 
-  pub counters-test_rec : OneResult M counters.test_rec.ended (λ _. counters.test_rec.spec)
-  counters-test_rec = result (λ _. counters.test_rec.clauses) (λ _. Rules.test_rec) refl
+  pub Counters-test_rec : OneResult M Counters.test_rec.ended (λ _. Counters.test_rec.spec)
+  Counters-test_rec = result (λ _. Counters.test_rec.clauses) (λ _. Rules.test_rec) refl
 
-  pub counters-test_tec : OneResult M counters.test_tec.ended (λ _. counters.test_tec.spec)
-  counters-test_tec = result (λ _. counters.test_tec.clauses) (λ _. Rules.test_tec) refl
+  pub Counters-test_tec : OneResult M Counters.test_tec.ended (λ _. Counters.test_tec.spec)
+  Counters-test_tec = result (λ _. Counters.test_tec.clauses) (λ _. Rules.test_tec) refl
 
   pub counters-lent-receive_error : OneResult M counters.lent.receive_error.ended (λ _. counters.lent.receive_error.spec)
   counters-lent-receive_error = lent Counters.the_type Rules.receive_error
@@ -65,8 +66,8 @@ module _ (M : Type 1) where
   levels-groups_shown = result (λ _. levels.groups_shown.clauses) (λ _. Levels.groups_shown) refl
 
   -- ---- fifo
-  pub fifo-empty : OneResult M fifo.empty.ended (λ _. fifo.empty.spec)
-  fifo-empty = result (λ _. fifo.empty.clauses) (λ _. Queue.empty) refl
+  pub Fifo-empty : OneResult M Fifo.empty.ended (λ _. Fifo.empty.spec)
+  Fifo-empty = result (λ _. Fifo.empty.clauses) (λ _. Queue.empty) refl
 
   pub fifo-eight_wait : OneResult M fifo.eight_wait.ended (λ _. fifo.eight_wait.spec)
   fifo-eight_wait = result (λ _. fifo.eight_wait.clauses) (λ _. Queue.eight_wait) refl
@@ -74,32 +75,32 @@ module _ (M : Type 1) where
   pub fifo-none_waits : OneResult M fifo.none_waits.ended (λ _. fifo.none_waits.spec)
   fifo-none_waits = result (λ _. fifo.none_waits.clauses) (λ _. Queue.none_waits) refl
 
-  pub fifo-full : OneResult M fifo.full.ended (λ _. fifo.full.spec)
-  fifo-full = result (λ _. fifo.full.clauses) (λ _. Queue.full) refl
+  pub Fifo-full : OneResult M Fifo.full.ended (λ _. Fifo.full.spec)
+  Fifo-full = result (λ _. Fifo.full.clauses) (λ _. Queue.full) refl
 
-  pub fifo-is_empty : OneResult M fifo.is_empty.ended (λ _. fifo.is_empty.spec)
-  fifo-is_empty = result (λ _. fifo.is_empty.clauses) (λ _. Queue.is_empty) refl
+  pub Fifo-is_empty : OneResult M Fifo.is_empty.ended (λ _. Fifo.is_empty.spec)
+  Fifo-is_empty = result (λ _. Fifo.is_empty.clauses) (λ _. Queue.is_empty) refl
 
-  pub fifo-place : OneResult M fifo.place.ended (λ _. fifo.place.spec)
-  fifo-place = result (λ _. fifo.place.clauses) (λ _. Queue.place) refl
+  pub Fifo-place : OneResult M Fifo.place.ended (λ _. Fifo.place.spec)
+  Fifo-place = result (λ _. Fifo.place.clauses) (λ _. Queue.place) refl
 
-  pub fifo-put : OneResult M fifo.put.ended (λ _. fifo.put.spec)
-  fifo-put = result (λ _. fifo.put.clauses) (λ _. Queue.put) refl
+  pub Fifo-put : OneResult M Fifo.put.ended (λ _. Fifo.put.spec)
+  Fifo-put = result (λ _. Fifo.put.clauses) (λ _. Queue.put) refl
 
-  pub fifo-place_over : OneResult M fifo.place_over.ended (λ _. fifo.place_over.spec)
-  fifo-place_over = result (λ _. fifo.place_over.clauses) (λ _. Queue.place_over) refl
+  pub Fifo-place_over : OneResult M Fifo.place_over.ended (λ _. Fifo.place_over.spec)
+  Fifo-place_over = result (λ _. Fifo.place_over.clauses) (λ _. Queue.place_over) refl
 
-  pub fifo-put_over : OneResult M fifo.put_over.ended (λ _. fifo.put_over.spec)
-  fifo-put_over = result (λ _. fifo.put_over.clauses) (λ _. Queue.put_over) refl
+  pub Fifo-put_over : OneResult M Fifo.put_over.ended (λ _. Fifo.put_over.spec)
+  Fifo-put_over = result (λ _. Fifo.put_over.clauses) (λ _. Queue.put_over) refl
 
-  pub fifo-take : OneResult M fifo.take.ended (λ _. fifo.take.spec)
-  fifo-take = result (λ _. fifo.take.clauses) (λ _. Queue.take) refl
+  pub Fifo-take : OneResult M Fifo.take.ended (λ _. Fifo.take.spec)
+  Fifo-take = result (λ _. Fifo.take.clauses) (λ _. Queue.take) refl
 
-  pub fifo-next : OneResult M fifo.next.ended (λ _. fifo.next.spec)
-  fifo-next = result (λ _. fifo.next.clauses) (λ _. Queue.next) refl
+  pub Fifo-next : OneResult M Fifo.next.ended (λ _. Fifo.next.spec)
+  Fifo-next = result (λ _. Fifo.next.clauses) (λ _. Queue.next) refl
 
-  pub fifo-latest : OneResult M fifo.latest.ended (λ _. fifo.latest.spec)
-  fifo-latest = result (λ _. fifo.latest.clauses) (λ _. Queue.latest) refl
+  pub Fifo-latest : OneResult M Fifo.latest.ended (λ _. Fifo.latest.spec)
+  Fifo-latest = result (λ _. Fifo.latest.clauses) (λ _. Queue.latest) refl
 
-  pub fifo-in_range : OneResult M fifo.in_range.ended (λ _. fifo.in_range.spec)
-  fifo-in_range = result (λ _. fifo.in_range.clauses) (λ _. Queue.in_range) refl
+  pub Fifo-in_range : OneResult M Fifo.in_range.ended (λ _. Fifo.in_range.spec)
+  Fifo-in_range = result (λ _. Fifo.in_range.clauses) (λ _. Queue.in_range) refl

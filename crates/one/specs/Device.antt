@@ -10,6 +10,7 @@ use Rattle.flags.specs.Reset
 use Rattle.transmit.specs.Transmit
 use Rattle.modes.specs.Modes
 use Rattle.chip.specs.contracts as chip
+use Rattle.chip.specs.contracts.Device
 use Rattle.line.specs.contracts as line
 use Rattle.drawn.specs.contracts as drawn
 use Rattle.flags.specs.contracts as flags
@@ -20,8 +21,8 @@ use Rattle.one.specs.Shapes.{result}
 
 module _ (M : Type 1) where
   -- ---- chip
-  pub chip-fresh : OneResult M chip.fresh.ended (λ _. chip.fresh.spec)
-  chip-fresh = result (λ _. chip.fresh.clauses) (λ _. State.fresh) refl
+  pub Device-fresh : OneResult M Device.fresh.ended (λ _. Device.fresh.spec)
+  Device-fresh = result (λ _. Device.fresh.clauses) (λ _. State.fresh) refl
 
   pub chip-mode_of : OneResult M chip.mode_of.ended (λ _. chip.mode_of.spec)
   chip-mode_of = result (λ _. chip.mode_of.clauses) (λ _. State.mode_of) refl
@@ -29,29 +30,29 @@ module _ (M : Type 1) where
   pub chip-reset_bit : OneResult M chip.reset_bit.ended (λ _. chip.reset_bit.spec)
   chip-reset_bit = result (λ _. chip.reset_bit.clauses) (λ _. State.reset_bit) refl
 
-  pub chip-bor : OneResult M chip.bor.ended (λ _. chip.bor.spec)
-  chip-bor = result (λ _. chip.bor.clauses) (λ _. State.bor) refl
+  pub Device-bor : OneResult M Device.bor.ended (λ _. Device.bor.spec)
+  Device-bor = result (λ _. Device.bor.clauses) (λ _. State.bor) refl
 
-  pub chip-wakeup : OneResult M chip.wakeup.ended (λ _. chip.wakeup.spec)
-  chip-wakeup = result (λ _. chip.wakeup.clauses) (λ _. State.wakeup) refl
+  pub Device-wakeup : OneResult M Device.wakeup.ended (λ _. Device.wakeup.spec)
+  Device-wakeup = result (λ _. Device.wakeup.clauses) (λ _. State.wakeup) refl
 
   pub chip-osm : OneResult M chip.osm.ended (λ _. chip.osm.spec)
   chip-osm = result (λ _. chip.osm.clauses) (λ _. State.osm) refl
 
-  pub chip-filton : OneResult M chip.filton.ended (λ _. chip.filton.spec)
-  chip-filton = result (λ _. chip.filton.clauses) (λ _. State.filton) refl
+  pub Device-filton : OneResult M Device.filton.ended (λ _. Device.filton.spec)
+  Device-filton = result (λ _. Device.filton.clauses) (λ _. State.filton) refl
 
-  pub chip-enabled : OneResult M chip.enabled.ended (λ _. chip.enabled.spec)
-  chip-enabled = result (λ _. chip.enabled.clauses) (λ _. State.enabled) refl
+  pub Device-enabled : OneResult M Device.enabled.ended (λ _. Device.enabled.spec)
+  Device-enabled = result (λ _. Device.enabled.clauses) (λ _. State.enabled) refl
 
-  pub chip-spent : OneResult M chip.spent.ended (λ _. chip.spent.spec)
-  chip-spent = result (λ _. chip.spent.clauses) (λ _. State.spent) refl
+  pub Device-spent : OneResult M Device.spent.ended (λ _. Device.spent.spec)
+  Device-spent = result (λ _. Device.spent.clauses) (λ _. State.spent) refl
 
   pub chip-bank : OneResult M chip.bank.ended (λ _. chip.bank.spec)
   chip-bank = result (λ _. chip.bank.clauses) (λ _. State.bank) refl
 
-  pub chip-proper : OneResult M chip.proper.ended (λ _. chip.proper.spec)
-  chip-proper = result (λ _. chip.proper.clauses) (λ _. Proper.proper) refl
+  pub Device-proper : OneResult M Device.proper.ended (λ _. Device.proper.spec)
+  Device-proper = result (λ _. Device.proper.clauses) (λ _. Proper.proper) refl
 
   -- ---- line
   pub line-read_line : OneResult M line.read_line.ended (λ _. line.read_line.spec)

@@ -7,20 +7,22 @@ use Rattle.std.specs.Coded.{coded_list, coded_ℕ}
 use Rattle.base.specs.Bit
 use Rattle.base.specs.Pick
 use Rattle.base.specs.Put
-use Rattle.refusal.specs.Refusal
+use Rattle.refusal.specs.Refusal as Numbers
 use Rattle.commands.specs.Table
 use Rattle.frame.specs.Length
 use Rattle.frame.specs.Tables
 use Rattle.frame.specs.Received
-use Rattle.to_send.specs.ToSend
+use Rattle.to_send.specs.ToSend as Sent
 use Rattle.filter.specs.Match
 use Rattle.filter.specs.Hits
 use Rattle.filter.specs.First
 use Rattle.base.specs.contracts as base
-use Rattle.refusal.specs.contracts as refusal
+use Rattle.refusal.specs.contracts.Refusal
 use Rattle.commands.specs.contracts as commands
 use Rattle.frame.specs.contracts as frame
+use Rattle.frame.specs.contracts.Header
 use Rattle.to_send.specs.contracts as to_send
+use Rattle.to_send.specs.contracts.ToSend
 use Rattle.filter.specs.contracts as filter
 use Rattle.one.specs.Law.{OneResult}
 use Rattle.one.specs.Shapes.{result, result_and, content}
@@ -42,8 +44,8 @@ module _ (M : Type 1) where
       (λ _ reply buffer. Put.put_of reply.now buffer.now) refl
 
   -- ---- refusal
-  pub refusal-Refusal-number : OneResult M refusal.Refusal.number.ended (λ _. refusal.Refusal.number.spec)
-  refusal-Refusal-number = result (λ _. refusal.Refusal.number.clauses) (λ _. Refusal.number) refl
+  pub Refusal-number : OneResult M Refusal.number.ended (λ _. Refusal.number.spec)
+  Refusal-number = result (λ _. Refusal.number.clauses) (λ _. Numbers.number) refl
 
   -- ---- commands
   pub commands-find : OneResult M commands.find.ended (λ _. commands.find.spec)
@@ -53,26 +55,26 @@ module _ (M : Type 1) where
   pub frame-data_length : OneResult M frame.data_length.ended (λ _. frame.data_length.spec)
   frame-data_length = result (λ _. frame.data_length.clauses) (λ _. Length.data_length) refl
 
-  pub frame-data_bytes : OneResult M frame.data_bytes.ended (λ _. frame.data_bytes.spec)
-  frame-data_bytes = result (λ _. frame.data_bytes.clauses) (λ _. Length.data_bytes) refl
+  pub Header-data_bytes : OneResult M Header.data_bytes.ended (λ _. Header.data_bytes.spec)
+  Header-data_bytes = result (λ _. Header.data_bytes.clauses) (λ _. Length.data_bytes) refl
 
-  pub frame-possible : OneResult M frame.possible.ended (λ _. frame.possible.spec)
-  frame-possible = result (λ _. frame.possible.clauses) (λ _. Length.possible) refl
+  pub Header-possible : OneResult M Header.possible.ended (λ _. Header.possible.spec)
+  Header-possible = result (λ _. Header.possible.clauses) (λ _. Length.possible) refl
 
-  pub frame-data_fits : OneResult M frame.data_fits.ended (λ _. frame.data_fits.spec)
-  frame-data_fits = result (λ _. frame.data_fits.clauses) (λ _. Length.data_fits) refl
+  pub Header-data_fits : OneResult M Header.data_fits.ended (λ _. Header.data_fits.spec)
+  Header-data_fits = result (λ _. Header.data_fits.clauses) (λ _. Length.data_fits) refl
 
-  pub frame-id_to_send : OneResult M frame.id_to_send.ended (λ _. frame.id_to_send.spec)
-  frame-id_to_send = result (λ _. frame.id_to_send.clauses) (λ _. Tables.id_to_send) refl
+  pub Header-id_to_send : OneResult M Header.id_to_send.ended (λ _. Header.id_to_send.spec)
+  Header-id_to_send = result (λ _. Header.id_to_send.clauses) (λ _. Tables.id_to_send) refl
 
-  pub frame-id_as_read : OneResult M frame.id_as_read.ended (λ _. frame.id_as_read.spec)
-  frame-id_as_read = result (λ _. frame.id_as_read.clauses) (λ _. Tables.id_as_read) refl
+  pub Header-id_as_read : OneResult M Header.id_as_read.ended (λ _. Header.id_as_read.spec)
+  Header-id_as_read = result (λ _. Header.id_as_read.clauses) (λ _. Tables.id_as_read) refl
 
-  pub frame-compared : OneResult M frame.compared.ended (λ _. frame.compared.spec)
-  frame-compared = result (λ _. frame.compared.clauses) (λ _. Tables.compared) refl
+  pub Header-compared : OneResult M Header.compared.ended (λ _. Header.compared.spec)
+  Header-compared = result (λ _. Header.compared.clauses) (λ _. Tables.compared) refl
 
-  pub frame-received : OneResult M frame.received.ended (λ _. frame.received.spec)
-  frame-received = result (λ _. frame.received.clauses) (λ _. Received.received) refl
+  pub Header-received : OneResult M Header.received.ended (λ _. Header.received.spec)
+  Header-received = result (λ _. Header.received.clauses) (λ _. Received.received) refl
 
   pub frame-id_from : OneResult M frame.id_from.ended (λ _. frame.id_from.spec)
   frame-id_from = result (λ _. frame.id_from.clauses) (λ _. Tables.id_from) refl
@@ -85,13 +87,13 @@ module _ (M : Type 1) where
 
   -- ---- to_send
   pub to_send-right_length : OneResult M to_send.right_length.ended (λ _. to_send.right_length.spec)
-  to_send-right_length = result (λ _. to_send.right_length.clauses) (λ _ s. ToSend.right_length s.now) refl
+  to_send-right_length = result (λ _. to_send.right_length.clauses) (λ _ s. Sent.right_length s.now) refl
 
   pub to_send-message_of : OneResult M to_send.message_of.ended (λ _. to_send.message_of.spec)
-  to_send-message_of = result (λ _. to_send.message_of.clauses) (λ _ s. ToSend.message_of s.now) refl
+  to_send-message_of = result (λ _. to_send.message_of.clauses) (λ _ s. Sent.message_of s.now) refl
 
-  pub to_send-stored : OneResult M to_send.stored.ended (λ _. to_send.stored.spec)
-  to_send-stored = result (λ _. to_send.stored.clauses) (λ _. ToSend.stored) refl
+  pub ToSend-stored : OneResult M ToSend.stored.ended (λ _. ToSend.stored.spec)
+  ToSend-stored = result (λ _. ToSend.stored.clauses) (λ _. Sent.stored) refl
 
   -- ---- filter
   pub filter-matches : OneResult M filter.matches.ended (λ _. filter.matches.spec)

@@ -53,7 +53,7 @@ module _ (M : Type 1) where
   explains = result_is (λ _. why.explained.clauses) (λ _. Why.explained) refl
 
   begins : Begins M fresh
-  begins = result_is (λ _. chip.fresh.clauses) (λ _. fresh) refl
+  begins = result_is (λ _. chip.Device.fresh.clauses) (λ _. fresh) refl
 
 pub is_the_code : TheMachineIsTheCode
 is_the_code M = (transfers M, events M, asked M, looks M, tells M, lists M, explains M, begins M)

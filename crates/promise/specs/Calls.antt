@@ -66,11 +66,11 @@ module _ (M : Type 1) where
       Equates M why.explained.ended (λ _. why.explained.spec) (λ a. Why) (λ a x. x.0)
       (at why.explained.ended Why (λ lifetimes d h acknowledged given payload. explain d h acknowledged given payload))
 
-  -- `chip::fresh()`
+  -- `Device::fresh()`
   abbrev pub Begins : Device → Type 2
   Begins first =
-      Equates M chip.fresh.ended (λ _. chip.fresh.spec) (λ a. Device) (λ a x. x.0)
-      (at chip.fresh.ended Device (λ lifetimes. first))
+      Equates M chip.Device.fresh.ended (λ _. chip.Device.fresh.spec) (λ a. Device) (λ a x. x.0)
+      (at chip.Device.fresh.ended Device (λ lifetimes. first))
 
 abbrev pub IsTheCode : Machine → (Device → Pins) → Question → Lister → Explainer → Device → Type 2
 IsTheCode step look ask list explain first =

@@ -32,7 +32,8 @@ pub enum Arrival {
 pub struct Brought {
     // Our own message, or a frame from the bus.
     pub own: bool,
-    // Whether another node acknowledged it. Of our own message nothing asks, and it is true.
+    // Whether another node acknowledged it. Of our own message nothing asks, and it is true: a flag of its own, since
+    // `judged::reason` answers for every pair.
     pub acknowledged: bool,
     pub header: Header,
     pub payload: [u8; 8],
@@ -46,7 +47,7 @@ pub fn matching(d: Device, h: Header, payload: [u8; 8]) -> u8
     filter::hits(
         chip::bank(d.filters),
         chip::bank(d.masks),
-        frame::compared(h, payload),
+        h.compared(payload),
     )
 }
 
@@ -56,7 +57,7 @@ pub fn hits(d: Device, b: Option<Brought>) -> u8
     ensures { result ≡ hits d b }
 {
     match b {
-        Some(b) if chip::filton(d) => matching(d, b.header, b.payload),
+        Some(b) if d.filton() => matching(d, b.header, b.payload),
         _ => 0,
     }
 }
@@ -66,7 +67,7 @@ pub fn hits(d: Device, b: Option<Brought>) -> u8
 fn over_latest(q: Fifo) -> Arrival
     ensures { result ≡ over_latest q }
 {
-    let lost = frame::header_in(fifo::latest(q).bytes);
+    let lost = frame::header_in(q.latest().bytes);
     Arrival::QueuedOver(lost.id, lost.extended)
 }
 
@@ -76,9 +77,9 @@ fn over_latest(q: Fifo) -> Arrival
 pub fn filters_and_room(d: Device, hits: u8) -> Arrival
     ensures { result ≡ filters_and_room d hits }
 {
-    if chip::filton(d) & (hits == 0) {
+    if d.filton() & (hits == 0) {
         Arrival::A4
-    } else if fifo::full(d.rx) {
+    } else if d.rx.full() {
         over_latest(d.rx)
     } else {
         Arrival::Queued
@@ -125,7 +126,7 @@ fn filter_flag(hits: u8) -> u8
 fn queue_after(q: Fifo, m: Message, queued: bool) -> Fifo
     ensures { result ≡ queue_after q m queued }
 {
-    if queued { fifo::put_over(q, m) } else { q }
+    if queued { q.put_over(m) } else { q }
 }
 
 // The next number; the last stays the last.
@@ -145,7 +146,7 @@ fn serials_after(s: Serials, q: Fifo, queued: bool) -> Serials
     let serial = next_serial(s.last);
     let mut places = s.places;
     if queued {
-        places[fifo::place_over(q)] = serial;
+        places[q.place_over()] = serial;
     }
     Serials {
         last: serial,
@@ -178,7 +179,7 @@ pub fn arrived(d: Device, b: Brought, hits: u8, what: Arrival) -> Device
 {
     let queued = is_queued(what);
     let m = Message {
-        bytes: frame::received(b.header, b.payload, d.time, filter::filhit(hits)),
+        bytes: b.header.received(b.payload, d.time, filter::filhit(hits)),
     };
     let mut e = d;
     e.regs.hits = hits;

@@ -108,7 +108,7 @@ fn row_judged(d: Device, r: Row, bytes: &[u8], lent: usize) -> Result<Row, Refus
 pub fn judge(d: Device, bytes: &[u8], lent: usize) -> Result<Row, Refusal>
     ensures { result ≡ verdict d bytes.now lent }
 {
-    if !chip::proper(d) {
+    if !d.proper() {
         return Err(Refusal::OutOfRange);
     }
     let &command = bytes.first().ok_or(Refusal::WrongLength)?;

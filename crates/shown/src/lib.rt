@@ -58,20 +58,21 @@ fn register(d: Device, v: u8) -> u8
 pub fn shows(d: Device, v: u8, k: u8) -> [u8; 16]
     ensures { result ≡ shows d v k }
 {
-    // Indexed as copies, so that the whole device is none.
+    // By the verb that stands in the command's row: the dispatch that 01 names. The banks are indexed as copies, so
+    // that the whole device is none.
     let filters = d.filters;
     let masks = d.masks;
     let place = usize::from(k % 8);
     match v {
         verb::READ_TEMPORARY_WITH_TIME => cut(d.temp, 0, 1),
         verb::READ_TEMPORARY => cut(d.temp, 0, 3),
-        verb::READ_MESSAGE_WITH_TIME => cut(fifo::next(d.rx), 0, 0),
-        verb::READ_MESSAGE => cut(fifo::next(d.rx), 1, 3),
-        verb::READ_DATA_WITH_TIME => cut(fifo::next(d.rx), 3, 8),
-        verb::READ_DATA => cut(fifo::next(d.rx), 1, 8),
+        verb::READ_MESSAGE_WITH_TIME => cut(d.rx.next(), 0, 0),
+        verb::READ_MESSAGE => cut(d.rx.next(), 1, 3),
+        verb::READ_DATA_WITH_TIME => cut(d.rx.next(), 3, 8),
+        verb::READ_DATA => cut(d.rx.next(), 1, 8),
         verb::READ_FILTER => padded(&filters[place].bytes),
         verb::READ_MASK => padded(&masks[place].bytes),
-        verb::READ_HISTORY => cut(fifo::next(d.history), 3, 16),
+        verb::READ_HISTORY => cut(d.history.next(), 3, 16),
         verb::READ_TIME => padded(&d.time.to_be_bytes()),
         _ => padded(&[register(d, v)]),
     }

@@ -46,11 +46,11 @@ fn scanner() -> Header
 #[derive(Clone, Copy)]
 struct Status {
     device: Device,
-    // RXFMTY is low.
+    // RXFMTY is low: what the register says, of no value beside it.
     waits: bool,
 }
 
-// The device after the terminal looked at it, and how much of its page is used.
+// The device after the terminal looked at it, and how much is used of its page, which is lent: nothing here has a heap.
 #[derive(Clone, Copy)]
 struct Turn {
     device: Device,
@@ -75,7 +75,7 @@ fn read_flags(d: Device) -> Device
 fn switched_on() -> Device
     ensures { result ≡ switched_on }
 {
-    let d = write(chip::fresh(), WRITE_INTE, RXFIFOIE);
+    let d = write(Device::fresh(), WRITE_INTE, RXFIFOIE);
     let d = write(d, WRITE_CTRL0, NORMAL_MODE);
     read_flags(d)
 }
@@ -122,6 +122,7 @@ fn serve(d: Device, page: &mut [u8]) -> Turn
     let d = read_flags(d);
     let mut s = read_status(d);
     let mut used = 0;
+    // The status says when to stop, and no chunk of the page.
     while s.waits {
         let past = used + 8;
         let e = read(s.device, &mut page[used..past]);

@@ -4,7 +4,7 @@
 ghost use Rattle.std.specs.Prelude.{◌≡◌};
 ghost use Rattle.base.specs.Bit.{byte};
 ghost use Rattle.to_send.specs.ToSend.{is_extended, data_from, code_in, standard_header, extended_header};
-ghost use Rattle.to_send.specs.ToSend.{header_to_send, right_length, message_of, stored};
+ghost use Rattle.to_send.specs.ToSend.{header_to_send, right_length, message_of};
 
 use frame::Header;
 
@@ -79,7 +79,7 @@ pub fn right_length(s: &[u8]) -> bool
     ensures { result ≡ right_length s.now }
 {
     let from = data_from(s);
-    let least = from + frame::data_bytes(header_to_send(s));
+    let least = from + header_to_send(s).data_bytes();
     (least..=from + 8).contains(&s.len())
 }
 
@@ -95,16 +95,20 @@ pub fn message_of(s: &[u8]) -> Option<ToSend>
     let header = header_to_send(s);
     let from = data_from(s);
     let mut bytes = [0; 8];
-    base::put(&s[from..from + frame::data_bytes(header)], &mut bytes);
+    base::put(&s[from..from + header.data_bytes()], &mut bytes);
     Some(ToSend { tag, header, bytes })
 }
 
-// A message to send as the transmit FIFO keeps it: Table 5's layout, with the tag for byte 1 and no time yet.
-#[tactic(auto, unfolding(crate::specs::ToSend::stored, frame::specs::Received::received))]
-pub fn stored(m: ToSend) -> [u8; 16]
-    ensures { result ≡ stored m }
-{
-    let mut bytes = frame::received(m.header, m.bytes, 0, 0);
-    bytes[0] = m.tag;
-    bytes
+impl ToSend {
+    ghost use Rattle.to_send.specs.ToSend.{stored};
+
+    // A message to send as the transmit FIFO keeps it: Table 5's layout, with the tag for byte 1 and no time yet.
+    #[tactic(auto, unfolding(crate::specs::ToSend::stored, frame::specs::Received::received))]
+    pub fn stored(self) -> [u8; 16]
+        ensures { result ≡ stored self }
+    {
+        let mut bytes = self.header.received(self.bytes, 0, 0);
+        bytes[0] = self.tag;
+        bytes
+    }
 }

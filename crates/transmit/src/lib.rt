@@ -22,11 +22,7 @@ fn sends(acting: u8) -> bool
 pub fn can_begin(d: Device) -> bool
     ensures { result ≡ can_begin d }
 {
-    (d.sending == IDLE)
-        & !fifo::is_empty(d.tx)
-        & chip::enabled(d)
-        & sends(d.acting)
-        & !d.counters.busoff
+    (d.sending == IDLE) & !d.tx.is_empty() & d.enabled() & sends(d.acting) & !d.counters.busoff
 }
 
 #[tactic(auto, using(base::specs::Pick::picks, base::specs::Pick::judges), unfolding(crate::specs::Transmit::without_tx1m))]
@@ -54,7 +50,7 @@ pub fn begun(d: Device) -> Device
 {
     let mut e = d;
     e.regs.ctrl1 = ctrl1_begun(e.regs.ctrl1);
-    e.buffer = fifo::next(e.tx);
+    e.buffer = e.tx.next();
     e.sending = FIRST_IN_FIFO;
     e
 }
@@ -101,7 +97,7 @@ pub fn cleared(d: Device) -> Device
 {
     let mut e = d;
     e.regs = disabled(e.regs);
-    e.tx = fifo::empty();
+    e.tx = Fifo::empty();
     e.sending = left_alone(e.sending);
     e
 }
@@ -121,7 +117,7 @@ fn fifo_after(tx: Fifo, sending: u8) -> Fifo
     ensures { result ≡ fifo_after tx sending }
 {
     if sending == FIRST_IN_FIFO {
-        fifo::take(tx)
+        tx.take()
     } else {
         tx
     }
@@ -131,11 +127,7 @@ fn fifo_after(tx: Fifo, sending: u8) -> Fifo
 fn counted_completion(c: Counters, acting: u8) -> Counters
     ensures { result ≡ counted_completion c acting }
 {
-    if acting == MONITOR {
-        c
-    } else {
-        counters::completed(c)
-    }
+    if acting == MONITOR { c } else { c.completed() }
 }
 
 // The running message is sent.
@@ -149,6 +141,6 @@ pub fn transmitted(d: Device) -> Device
     e.counters = counted_completion(e.counters, e.acting);
     e.tx = fifo_after(e.tx, e.sending);
     e.sending = IDLE;
-    e.history = fifo::put(e.history, stamped(e.buffer, e.time));
+    e.history = e.history.put(stamped(e.buffer, e.time));
     flags::raised(e, flags::TXCPLT)
 }

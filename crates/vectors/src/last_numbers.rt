@@ -1,8 +1,9 @@
 // The last arrival numbers, which no script reaches: a device that has given 2^64 - 2, and what it then does.
 use crate::say::{Said, Told};
-use crate::{Printed, happens, normal, read, scan, standard, transfer};
+use crate::{happens, normal, read, scan, standard, transfer};
 use chip::Device;
 use events::Event;
+use std::io;
 
 // Normal mode, and one number is left.
 fn one_left() -> Device {
@@ -15,7 +16,7 @@ fn numbers(d: Device) -> Told {
     Told(bus::numbers(d))
 }
 
-fn last_and_none_behind_it(rt: &impl Print) -> Printed<()> {
+fn last_and_none_behind_it(rt: &impl Print) -> io::Result<()> {
     let mut d = one_left();
     let last = scan(&mut d, 0x123);
     let after = numbers(d);
@@ -26,7 +27,7 @@ fn last_and_none_behind_it(rt: &impl Print) -> Printed<()> {
 }
 
 // 8 comes first, and a frame that gets no number is answered as ever.
-fn what_12_leaves(rt: &impl Print) -> Printed<()> {
+fn what_12_leaves(rt: &impl Print) -> io::Result<()> {
     let mut d = one_left();
     let last = scan(&mut d, 0x123);
     let impossible = scan(&mut d, 0x800);
@@ -48,7 +49,7 @@ fn why_not(d: Device) -> Said {
     Said(why::explained(d, standard(0x123, 0), true, 0, [0; 8]).answer)
 }
 
-fn asked_why(rt: &impl Print) -> Printed<()> {
+fn asked_why(rt: &impl Print) -> io::Result<()> {
     let mut d = one_left();
     let last = scan(&mut d, 0x123);
     let normal = why_not(d);
@@ -59,8 +60,8 @@ fn asked_why(rt: &impl Print) -> Printed<()> {
 }
 
 // TSTAT shows that the message still runs; outside loopback its completion gets no number, and is done.
-fn completion_in_loopback(rt: &impl Print) -> Printed<()> {
-    let mut d = chip::fresh();
+fn completion_in_loopback(rt: &impl Print) -> io::Result<()> {
+    let mut d = Device::fresh();
     transfer(&mut d, &[0x14, 0x20]);
     transfer(&mut d, &[0x12, 0x01, 0x24, 0x60, 0x00]);
     transfer(&mut d, &[0x16, 0x80]);
@@ -78,7 +79,7 @@ fn completion_in_loopback(rt: &impl Print) -> Printed<()> {
     println!(rt; "{begun} {refused} {messtat} {again} {done} {told}")
 }
 
-pub(crate) fn each(rt: &impl Print) -> Printed<()> {
+pub(crate) fn each(rt: &impl Print) -> io::Result<()> {
     last_and_none_behind_it(rt)?;
     what_12_leaves(rt)?;
     asked_why(rt)?;

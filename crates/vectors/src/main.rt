@@ -11,7 +11,7 @@ use events::Event;
 use frame::Header;
 use refusal::Refusal;
 use say::{Each, Number, Read, Said};
-use std::io::Result as Printed;
+use std::io;
 
 // A transfer with so many bytes lent, and what they then are.
 fn lending<const LENT: usize>(d: &mut Device, bytes: &[u8]) -> Result<[u8; LENT], Refusal> {
@@ -66,7 +66,7 @@ fn scan(d: &mut Device, id: u32) -> Said {
 }
 
 fn normal() -> Device {
-    let mut d = chip::fresh();
+    let mut d = Device::fresh();
     transfer(&mut d, &[0x14, 0x00]);
     d
 }
@@ -74,7 +74,7 @@ fn normal() -> Device {
 // Normal mode with filtering on: every filter asks for identifier 0x123 and, in the bits that `counts` has, for this
 // first data byte.
 fn filtering(first: u8, counts: u8) -> Device {
-    let mut d = chip::fresh();
+    let mut d = Device::fresh();
     let filters = [0x62, 0x64, 0x66, 0x68, 0x6A, 0x6C, 0x6E, 0x72];
     let masks = [0x74, 0x76, 0x78, 0x7A, 0x7C, 0x7E, 0x82, 0x84];
     for (filter, mask) in filters.iter().zip(&masks) {
@@ -90,7 +90,7 @@ fn full_queue(d: &mut Device) -> Each {
     Each([0x123; 8].map(|id| scan(d, id)))
 }
 
-fn eight_and_a_ninth(rt: &impl Print) -> Printed<()> {
+fn eight_and_a_ninth(rt: &impl Print) -> io::Result<()> {
     let mut d = normal();
     let eight = full_queue(&mut d);
     let ninth = scan(&mut d, 0x124);
@@ -99,25 +99,25 @@ fn eight_and_a_ninth(rt: &impl Print) -> Printed<()> {
     println!(rt; "eight frames, a ninth, one read, the next:{eight} {ninth} {read} {next}")
 }
 
-fn message_to_send(rt: &impl Print) -> Printed<()> {
+fn message_to_send(rt: &impl Print) -> io::Result<()> {
     let mut d = normal();
     let whole = transfer(&mut d, &[0x12, 0x07, 0x24, 0x60, 0x02, 0xAA, 0x55]);
     let short = transfer(&mut d, &[0x12, 0x07, 0x24, 0x60, 0x02, 0xAA]);
     println!(rt; "12 07 24 60 02 AA 55, and without the 55: {whole} {short}")
 }
 
-fn empty_fifo(rt: &impl Print) -> Printed<()> {
+fn empty_fifo(rt: &impl Print) -> io::Result<()> {
     let read = Number(lending::<14>(&mut normal(), &[0x48]));
     println!(rt; "0x48 on an empty FIFO, 14 bytes lent: {read}")
 }
 
-fn mask_in_normal_mode(rt: &impl Print) -> Printed<()> {
+fn mask_in_normal_mode(rt: &impl Print) -> io::Result<()> {
     let write = transfer(&mut normal(), &[0x74, 0xFF, 0xE0, 0, 0, 0, 0]);
     println!(rt; "a mask write in normal mode: {write}")
 }
 
 // After 0x54 the new message stays, and only its own completion takes it.
-fn cleared_while_running(rt: &impl Print) -> Printed<()> {
+fn cleared_while_running(rt: &impl Print) -> io::Result<()> {
     let mut d = normal();
     transfer(&mut d, &[0x12, 0x01, 0x24, 0x60, 0x00]);
     transfer(&mut d, &[0x16, 0x80]);
@@ -137,7 +137,7 @@ fn cleared_while_running(rt: &impl Print) -> Printed<()> {
     println!(rt; "{begun} {cleared} {new} {old} {statf} {again} {own} {first} {second}")
 }
 
-fn length_code_nine(rt: &impl Print) -> Printed<()> {
+fn length_code_nine(rt: &impl Print) -> io::Result<()> {
     let mut d = normal();
     let eight = frame_with(&mut d, 0x123, 9, 8, [1, 2, 3, 4, 5, 6, 7, 8]);
     let nine = frame_with(&mut d, 0x123, 9, 9, [1, 2, 3, 4, 5, 6, 7, 8]);
@@ -145,7 +145,7 @@ fn length_code_nine(rt: &impl Print) -> Printed<()> {
     println!(rt; "length code 9 with eight bytes, with nine, and as read: {eight} {nine} {read}")
 }
 
-fn filtered_off(rt: &impl Print) -> Printed<()> {
+fn filtered_off(rt: &impl Print) -> io::Result<()> {
     let mut d = filtering(0, 0);
     let missed = scan(&mut d, 0x124);
     let read = read::<5>(&mut d, 0x44);
@@ -153,7 +153,7 @@ fn filtered_off(rt: &impl Print) -> Printed<()> {
 }
 
 // Thirteen bytes lent are one too few for 0x48.
-fn short_buffer(rt: &impl Print) -> Printed<()> {
+fn short_buffer(rt: &impl Print) -> io::Result<()> {
     let mut d = normal();
     let queued = scan(&mut d, 0x123);
     let short = Number(lending::<13>(&mut d, &[0x48]));
@@ -161,7 +161,7 @@ fn short_buffer(rt: &impl Print) -> Printed<()> {
     println!(rt; "a read with too short a buffer, then one long enough: {queued} {short} {read}")
 }
 
-fn stranger_at_a_full_queue(rt: &impl Print) -> Printed<()> {
+fn stranger_at_a_full_queue(rt: &impl Print) -> io::Result<()> {
     let mut d = filtering(0, 0);
     let eight = full_queue(&mut d);
     let stranger = scan(&mut d, 0x124);
@@ -170,7 +170,7 @@ fn stranger_at_a_full_queue(rt: &impl Print) -> Printed<()> {
 }
 
 // What stands in the payload behind the frame's own bytes is nothing to filters and reads.
-fn payload_behind_the_count(rt: &impl Print) -> Printed<()> {
+fn payload_behind_the_count(rt: &impl Print) -> io::Result<()> {
     let mut d = filtering(0xAA, 0xFF);
     let without = frame_with(&mut d, 0x123, 0, 0, [0xAA; 8]);
     let mut payload = [0x55; 8];
@@ -183,12 +183,12 @@ fn payload_behind_the_count(rt: &impl Print) -> Printed<()> {
     println!(rt; "{without} {with} {read}")
 }
 
-fn unknown_kind(rt: &impl Print) -> Printed<()> {
+fn unknown_kind(rt: &impl Print) -> io::Result<()> {
     let unknown = happens(&mut normal(), Event::Unknown);
     println!(rt; "an event of no kind that there is: {unknown}")
 }
 
-fn each(rt: &impl Print) -> Printed<()> {
+fn each(rt: &impl Print) -> io::Result<()> {
     eight_and_a_ninth(rt)?;
     message_to_send(rt)?;
     empty_fifo(rt)?;

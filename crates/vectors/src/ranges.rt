@@ -1,10 +1,10 @@
-// Number 1: of each range that `chip::proper` asks for, a device just outside it and its neighbour at the bound, at
+// Number 1: of each range that `Device::proper` asks for, a device just outside it and its neighbour at the bound, at
 // both doors, asked why and asked for its numbers.
 use crate::say::{Number, Said};
-use crate::{Printed, standard};
+use crate::standard;
 use chip::{Device, FIRST_IN_FIFO};
 use events::Event;
-use std::fmt;
+use std::{fmt, io};
 
 // What a read of CTRL0, an event of no ticks, the question why a frame would not arrive and that of the arrival numbers
 // are given.
@@ -29,18 +29,18 @@ fn on_both_sides<F: Fn(&mut Device, u8)>(
     outside: u8,
     bound: u8,
     change: F,
-) -> Printed<()>
+) -> io::Result<()>
     requires { F.IsAlwaysCallable change }
 {
     let changed = |value| {
-        let mut d = chip::fresh();
+        let mut d = Device::fresh();
         change(&mut d, value);
         Asked(d)
     };
     println!(rt; "{range}: {}, {}", changed(outside), changed(bound))
 }
 
-fn queues(rt: &impl Print) -> Printed<()> {
+fn queues(rt: &impl Print) -> io::Result<()> {
     on_both_sides(
         rt,
         "receive FIFO, first 8 and 7",
@@ -85,7 +85,7 @@ fn queues(rt: &impl Print) -> Printed<()> {
     )
 }
 
-fn registers(rt: &impl Print) -> Printed<()> {
+fn registers(rt: &impl Print) -> io::Result<()> {
     on_both_sides(rt, "ERR, 32 and 31", 32, 31, |d, n| d.regs.errs = n)?;
     on_both_sides(rt, "MTAG, 4 and 3", 4, 3, |d, n| d.regs.mtag = n)?;
     on_both_sides(
@@ -97,7 +97,7 @@ fn registers(rt: &impl Print) -> Printed<()> {
     )
 }
 
-fn running(rt: &impl Print) -> Printed<()> {
+fn running(rt: &impl Print) -> io::Result<()> {
     on_both_sides(rt, "one runs as the first of 0 and of 1", 0, 1, |d, n| {
         d.tx.count = n;
         d.sending = FIRST_IN_FIFO;
@@ -105,14 +105,14 @@ fn running(rt: &impl Print) -> Printed<()> {
     on_both_sides(rt, "what runs, 3 and 2", 3, 2, |d, n| d.sending = n)
 }
 
-fn acting(rt: &impl Print, range: &str, ctrl0: u8, outside: u8, bound: u8) -> Printed<()> {
+fn acting(rt: &impl Print, range: &str, ctrl0: u8, outside: u8, bound: u8) -> io::Result<()> {
     on_both_sides(rt, range, outside, bound, |d, mode| {
         d.regs.ctrl0 = ctrl0;
         d.acting = mode;
     })
 }
 
-fn modes(rt: &impl Print) -> Printed<()> {
+fn modes(rt: &impl Print) -> io::Result<()> {
     acting(rt, "MODE 000, acting 1 and 0", 0x00, 1, 0)?;
     acting(rt, "MODE 001, acting 0 and 1", 0x20, 0, 1)?;
     acting(rt, "MODE 010, acting 3 and 2", 0x40, 3, 2)?;
@@ -121,7 +121,7 @@ fn modes(rt: &impl Print) -> Printed<()> {
     acting(rt, "MODE 011, acting 5 and 4", 0x60, 5, 4)
 }
 
-pub(crate) fn each(rt: &impl Print) -> Printed<()> {
+pub(crate) fn each(rt: &impl Print) -> io::Result<()> {
     queues(rt)?;
     registers(rt)?;
     running(rt)?;

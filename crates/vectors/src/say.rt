@@ -10,11 +10,10 @@ pub struct Number<T>(pub Result<T, Refusal>);
 
 impl<T> fmt::Display for Number<T> {
     fn fmt<W: fmt::Write>(&self, f: &mut fmt::Formatter<W>) -> fmt::Result {
-        let number = match &self.0 {
-            Ok(_) => 0,
-            Err(refusal) => refusal.number(),
-        };
-        write!(f, "{number}")
+        match &self.0 {
+            Ok(_) => f.write_str("0"),
+            Err(refusal) => write!(f, "{refusal}"),
+        }
     }
 }
 
@@ -43,11 +42,12 @@ impl fmt::Display for Said {
         match self.0 {
             Ok(Some(what)) => write!(f, "{}", Word(what)),
             Ok(None) => f.write_str("Done"),
-            Err(refusal) => write!(f, "{}", refusal.number()),
+            Err(refusal) => write!(f, "{refusal}"),
         }
     }
 }
 
+// `face` has a word of its own: the message that is lost shows there as a script's line writes it, and here in bytes.
 #[derive(Clone, Copy)]
 struct Word(Arrival);
 

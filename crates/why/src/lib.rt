@@ -64,7 +64,7 @@ fn places(d: Device, h: Header, payload: [u8; 8]) -> [Option<Place>; 8]
 {
     let filters = chip::bank(d.filters);
     let masks = chip::bank(d.masks);
-    let vector = frame::compared(h, payload);
+    let vector = h.compared(payload);
     array::from_fn(|k| first_place(vector, filters[k], masks[k]))
 }
 

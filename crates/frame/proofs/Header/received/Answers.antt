@@ -1,9 +1,9 @@
--- `frame::received` meets its contract: the parts stand where Table 5 has them. Assumes nothing.
+-- `Header::received` meets its contract: the parts stand where Table 5 has them. Assumes nothing.
 use Rattle.std.proofs.Common.{◌≡◌, [], ◌∷◌, ◌%◌, ap, ◌∙◌, arith, append-nil}
 use Rattle.base.specs.Bit.{time_bytes}
 use Rattle.frame.specs.Received.{received}
 use Rattle.frame.specs.Tables.{id_as_read}
-use Rattle.frame.proofs.received.Goals as goal
+use Rattle.frame.proofs.Header.received.Goals as goal
 
 pub returns : goal.returns
 unfolding received id_as_read
