@@ -63,7 +63,7 @@ fn write(d: Device, command: u8, value: u8) -> Device
     host::transfer(d, &[command, value], &mut []).device
 }
 
-// INTF, which reading clears: INT falls.
+// INTF, which reading clears: INT falls. What it says is not asked, and so this is no `read_status`.
 fn read_flags(d: Device) -> Device
     ensures { result ≡ asked d 0xDE 1 }
 {
