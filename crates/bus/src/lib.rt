@@ -100,15 +100,16 @@ fn waiting_numbers(d: Device) -> [u64; 8]
 pub fn numbers(d: Device) -> Result<Numbers, Refusal>
     ensures { result ≡ numbers d }
 {
-    if !d.proper() {
-        return Err(Refusal::OutOfRange);
+    if d.proper() {
+        Ok(Numbers {
+            last: d.serials.last,
+            temp: d.serials.temp,
+            count: d.rx.count,
+            waiting: waiting_numbers(d),
+        })
+    } else {
+        Err(Refusal::OutOfRange)
     }
-    Ok(Numbers {
-        last: d.serials.last,
-        temp: d.serials.temp,
-        count: d.rx.count,
-        waiting: waiting_numbers(d),
-    })
 }
 
 // The four output pins.

@@ -99,12 +99,11 @@ impl Counters {
         if !self.busoff {
             return self;
         }
-        let groups = self.groups.saturating_add(1).min(128);
-        if (groups == 128) & bor {
-            Self::default()
-        } else {
-            Self { groups, ..self }
+        let groups = self.groups.min(127) + 1;
+        if bor && groups == 128 {
+            return Self::default();
         }
+        Self { groups, ..self }
     }
 
     // The test write 0x24.

@@ -18,6 +18,11 @@ fn is_blank(b: u8) -> bool {
     matches!(b, b' ' | b'\t' | b'\r')
 }
 
+fn past_blanks(bytes: &[u8]) -> &[u8] {
+    let n = bytes.iter().take_while(|&&b| is_blank(b)).count();
+    &bytes[n..]
+}
+
 impl Held {
     pub(crate) fn new() -> Held {
         Held {
@@ -27,22 +32,30 @@ impl Held {
         }
     }
 
-    // One byte more.
-    pub(crate) fn push(&mut self, b: u8) {
-        if b == b'#' {
-            self.commented = true;
-        }
+    // Those of the line's bytes that come next.
+    pub(crate) fn push(&mut self, bytes: &[u8]) {
         if self.commented {
             return;
         }
-        match self.length {
-            Some(0) if is_blank(b) => {}
-            Some(n) if n < SIZE => {
-                self.bytes[n] = b;
-                self.length = Some(n + 1);
+        let text = match bytes.iter().position(|&b| b == b'#') {
+            Some(n) => {
+                self.commented = true;
+                &bytes[..n]
             }
-            _ => self.length = None,
-        }
+            None => bytes,
+        };
+        self.length = match self.length {
+            Some(0) => self.append(0, past_blanks(text)),
+            Some(n) => self.append(n, text),
+            None => None,
+        };
+    }
+
+    // How many there are with these behind the first n.
+    fn append(&mut self, n: usize, text: &[u8]) -> Option<usize> {
+        let room = self.bytes.get_mut(n..)?.get_mut(..text.len())?;
+        room.copy_from_slice(text);
+        Some(n + text.len())
     }
 
     // The line is complete, and the next begins.

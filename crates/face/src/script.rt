@@ -50,16 +50,16 @@ impl<T: Task + Drop> Script<T> {
         }
     }
 
+    // A newline completes the line before it.
     fn feed(&mut self, chunk: &[u8]) {
-        for b in chunk {
-            if *b != b'\n' {
-                self.held.push(*b);
-                continue;
+        for (newlines, bytes) in chunk.split(|&b| b == b'\n').enumerate() {
+            if newlines != 0 {
+                self.close();
+                if self.over {
+                    return;
+                }
             }
-            self.close();
-            if self.over {
-                return;
-            }
+            self.held.push(bytes);
         }
     }
 

@@ -4,7 +4,7 @@
 
 mod identifier;
 
-ghost use Rattle.std.specs.Prelude.{◌≡◌};
+ghost use Rattle.std.specs.Prelude.{◌≡◌, get_or};
 ghost use Rattle.frame.specs.Length.{data_length};
 ghost use Rattle.frame.specs.Tables.{id_from};
 ghost use Rattle.frame.specs.Received.{header_in, data_in};
@@ -94,6 +94,13 @@ impl Header {
         data
     }
 
+    // Byte k of a frame's data, from 0: filters ask for two, and no copy of all eight.
+    fn data_byte(self, payload: [u8; 8], k: usize) -> u8
+        ensures { result ≡ get_or (data_of self payload) k 0 }
+    {
+        if k < self.data_bytes() { payload[k] } else { 0 }
+    }
+
     // The identifier in 0x12: Table 2. For whoever writes a message, a driver or another caller: no crate here calls
     // it, and 01's worked numbers are computed from its definition.
     #[tactic(auto, unfolding(crate::specs::Tables::id_to_send))]
@@ -127,7 +134,8 @@ impl Header {
         ensures { result ≡ compared self payload }
     {
         let [a, b, c, d] = self.laid_out(self.remote, self.extended, false);
-        let [first, second, ..] = self.data_of(payload);
+        let first = self.data_byte(payload, 0);
+        let second = self.data_byte(payload, 1);
         [a, b, c, d, first, second]
     }
 

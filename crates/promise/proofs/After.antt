@@ -1,7 +1,7 @@
 -- In any device that holds what the records have every answer is the one that is due, and so it goes on: after every
 -- sequence from a fresh one, too. Assumes nothing.
 use mathlib.Core.Path.{◌≡◌, refl, sym, ◌∙◌, ap}
-use mathlib.Core.Bool.{Bool, true, false, not}
+use mathlib.Core.Bool.{Bool, true, false, not, false≢true}
 use mathlib.Core.List.{List, [], ◌∷◌, ◌++◌, foldl}
 use Prim.Native.Nat.{ℕ, ◌<◌, ◌≤◌, ◌+◌, ◌%◌}
 use native.Mathlib.Omega.{arith}
@@ -11,7 +11,7 @@ use lib.Dec.{eqb, leb}
 use lib.ListN.{length, take, drop, length-take}
 use Rattle.std.proofs.lemmas.Bool.{or_parts}
 use Rattle.base.specs.Bit.{byte}
-use Rattle.std.specs.Prelude.{Some, Ok, Err}
+use Rattle.std.specs.Prelude.{Result, Some, Ok, Err}
 use Rattle.base.specs.Pick.{pick}
 use Rattle.base.proofs.Booleans.{and_right}
 use Rattle.chip.specs.declared.Device.{Device}
@@ -21,7 +21,7 @@ use Rattle.events.specs.declared.Event.{Event}
 use Rattle.judged.specs.Judged.{impossible, no_number_left}
 use Rattle.bus.specs.Event.{values_of}
 use Rattle.refusal.specs.declared.Refusal.{Refusal}
-use Rattle.refusal.specs.Refusal.{number as number_for}
+use Rattle.refusal.specs.Refusal.{number as number_for, number_of}
 use Rattle.bus.specs.Hits.{hits}
 use Rattle.bus.specs.Pins.{pins}
 use Rattle.commands.specs.declared.Row.{Row}
@@ -32,11 +32,11 @@ use Rattle.promise.specs.Promises.{EachAnswerIsDue, SettingsAreThoseWritten, Cou
 use Rattle.promise.specs.Promises.{IntfIsTheFlagsRaised, PinsShowTheRecords, OnlyTheReplacedAreLost, EachLossIsTold, FieldsStandAsTheyArrived, OwnMessagesAreThoseWritten}
 use Rattle.promise.specs.Promises.{TheLastNumberCountsTheArrivals, EachCarriesItsNumber, TheNumbersRise, NoTwoAreAlike, AReadTakesTheFirst, TheNumbersAreTold}
 use Rattle.promise.specs.Promises.{TheAnswersKeepTheRecords, TheFiltersAreToldAsWritten, AnyDeviceGoesOnSo}
-use Rattle.promise.specs.Sequence.{Input, spi, wire, Given, Step, shipped as step, number, values, fate, done, run, conversation}
+use Rattle.promise.specs.Sequence.{Input, spi, wire, Given, replied, Step, shipped as step, number, values, fate, done, run, conversation}
 use Rattle.promise.specs.Commands.{lengths_of, transfer_fits}
 use Rattle.promise.specs.Own.{message_fits}
 use Rattle.promise.specs.Numbers.{situation, applies, number_due}
-use Rattle.promise.specs.Due.{Due, situation_of}
+use Rattle.promise.specs.Due.{Due, situation_of, filled}
 use Rattle.promise.specs.Held.{Pinned, Holds}
 use Rattle.promise.specs.After.{recorded, LosesAsTold, TakesFirst}
 use Rattle.promise.specs.Arrivals.{values_due}
@@ -44,7 +44,7 @@ use Rattle.promise.specs.Ledger.{kept as kept_in}
 use Rattle.promise.specs.Noted.{noted, by_the_rules, by_the_answers, happened}
 use Rattle.promise.specs.Records.{Records, start}
 use Rattle.promise.specs.Questions.{Told}
-use Rattle.promise.specs.Registers.{pins_shown}
+use Rattle.promise.specs.Registers.{pins_shown, shown}
 use Rattle.promise.specs.Settings.{Settings}
 use Rattle.promise.proofs.Answered.{first}
 use Rattle.promise.proofs.CommandsKept.{command_kept}
@@ -292,3 +292,15 @@ recorded_more is i = noted_more (noted by_the_rules) fresh start is i
 pub taken_and_left : (is : List Input)
     → length (recorded step is).ledger.taken + (run step fresh is).rx.count ≡ length (kept_in (recorded step is).ledger)
 taken_and_left is = taken_waits (run step fresh is).rx (run step fresh is).serials.places (recorded step is).ledger (kept (run step fresh is) (recorded step is) (always is)).3.2
+
+-- only what is done has the number 0
+done_alone : (answer : Result (Unit {0}) Refusal) → number_of answer ≡ 0 → answer ≡ Ok tt
+done_alone (Ok tt) none = refl
+done_alone (Err refusal) none = absurd (false≢true (sym (refusal_counts refusal) ∙ ap (λ n. eqb n 0) none))
+
+-- a transfer for which no number is due is done, and the buffer begins with its reply
+pub done_due : (r : Records) (bytes buffer : List ℕ) (given : Given) → Due r (spi bytes buffer) given
+    → number_due (situation_of r) (spi bytes buffer) ≡ 0
+    → given ≡ replied (Ok tt) (filled (shown r (byte bytes 1)) buffer)
+done_due r bytes buffer given due passes =
+    due.2 ∙ ap (λ answer. replied answer _) (done_alone due.0 (due.1 ∙ passes)) ∙ rw passes

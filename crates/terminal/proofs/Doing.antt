@@ -7,15 +7,13 @@ use Prim.Native.Nat.{ℕ, ◌+◌, ◌*◌, ◌/◌, ◌%◌, ◌≤◌}
 use native.Mathlib.Omega.{arith}
 use lib.Dec.{eqb, leb}
 use lib.ListN.{length, replicate, length-append}
-use Rattle.std.specs.Prelude.{Result}
+use Rattle.std.specs.Prelude.{Ok}
 use Rattle.base.specs.Bit.{is_set, byte}
 use Rattle.base.specs.Pick.{flag}
 use Rattle.base.proofs.Booleans.{flag_le, flag_back}
 use Rattle.counters.specs.declared.Counters.{Counters}
 use Rattle.chip.specs.declared.Device.{Device}
 use Rattle.chip.specs.State.{fresh, normal}
-use Rattle.refusal.specs.declared.Refusal.{Refusal}
-use Rattle.refusal.specs.Refusal.{number_of}
 use Rattle.host.specs.Transfer.{reply_after}
 use Rattle.promise.specs.Sequence.{Input, spi, Given, replied, answered, shipped as step}
 use Rattle.promise.specs.Commands.{is_command, lengths_of, sets_up, transfer_fits}
@@ -30,7 +28,7 @@ use Rattle.promise.specs.Registers.{fields, from, statf, shown}
 use Rattle.promise.specs.Settings.{Settings, settings_of, filton}
 use Rattle.promise.proofs.Ledgers.{counted_once}
 use Rattle.promise.proofs.Steps.{run_more}
-use Rattle.promise.proofs.After.{settled, counted, raised, due, last_counts, recorded_more, taken_and_left}
+use Rattle.promise.proofs.After.{settled, counted, raised, due, last_counts, recorded_more, taken_and_left, done_due}
 use Rattle.terminal.specs.Terminal.{asked, reply, status_of, Listens, Reached}
 
 -- the lent buffer, of what a transfer gave
@@ -80,15 +78,14 @@ module _ {d : Device} (h : Reached d) where
   -- ---- a transfer that the records let pass
 
   module _ (bytes buffer : List ℕ) (passes : number_due (situation_of (book h)) (spi bytes buffer) ≡ 0) where
-    given_is : (answer : Result (Unit {0}) Refusal) × (number_of answer ≡ 0)
-        × ((step d (spi bytes buffer)).given ≡ replied answer (filled (shown (book h) (byte bytes 1)) buffer))
-    given_is = let due_now = given_due (spi bytes buffer) in (due_now.0, due_now.1 ∙ passes, due_now.2 ∙ rw passes)
+    given_is : (step d (spi bytes buffer)).given ≡ replied (Ok tt) (filled (shown (book h) (byte bytes 1)) buffer)
+    given_is = done_due (book h) bytes buffer _ (given_due (spi bytes buffer)) passes
 
     pub replies : reply_after d bytes buffer ≡ filled (shown (book h) (byte bytes 1)) buffer
-    replies = ap left_in given_is.2
+    replies = ap left_in given_is
 
     pub book_after : book (further h (spi bytes buffer)) ≡ commanded (book h) bytes
-    book_after = book_more (spi bytes buffer) ∙ ap (noted by_the_rules (book h) (spi bytes buffer)) given_is.2 ∙ rw given_is.1
+    book_after = book_more (spi bytes buffer) ∙ ap (noted by_the_rules (book h) (spi bytes buffer)) given_is
 
 -- ---- a device that listens
 

@@ -10,8 +10,7 @@ use chip::Device;
 use events::Event;
 use frame::Header;
 use refusal::Refusal;
-use say::{Each, Number, Read, Said};
-use std::io;
+use say::{Each, Number, Printer, Read, Said};
 
 // A transfer with so many bytes lent, and what they then are.
 fn lending<const LENT: usize>(d: &mut Device, bytes: &[u8]) -> Result<[u8; LENT], Refusal> {
@@ -90,34 +89,34 @@ fn full_queue(d: &mut Device) -> Each {
     Each([0x123; 8].map(|id| scan(d, id)))
 }
 
-fn eight_and_a_ninth(rt: &impl Print) -> io::Result<()> {
+fn eight_and_a_ninth(out: &mut Printer) {
     let mut d = normal();
     let eight = full_queue(&mut d);
     let ninth = scan(&mut d, 0x124);
     let read = read::<0>(&mut d, 0x48);
     let next = scan(&mut d, 0x125);
-    println!(rt; "eight frames, a ninth, one read, the next:{eight} {ninth} {read} {next}")
+    out.line(format_args!("eight frames, a ninth, one read, the next:{eight}{ninth}{read}{next}"));
 }
 
-fn message_to_send(rt: &impl Print) -> io::Result<()> {
+fn message_to_send(out: &mut Printer) {
     let mut d = normal();
     let whole = transfer(&mut d, &[0x12, 0x07, 0x24, 0x60, 0x02, 0xAA, 0x55]);
     let short = transfer(&mut d, &[0x12, 0x07, 0x24, 0x60, 0x02, 0xAA]);
-    println!(rt; "12 07 24 60 02 AA 55, and without the 55: {whole} {short}")
+    out.line(format_args!("12 07 24 60 02 AA 55, and without the 55:{whole}{short}"));
 }
 
-fn empty_fifo(rt: &impl Print) -> io::Result<()> {
+fn empty_fifo(out: &mut Printer) {
     let read = Number(lending::<14>(&mut normal(), &[0x48]));
-    println!(rt; "0x48 on an empty FIFO, 14 bytes lent: {read}")
+    out.line(format_args!("0x48 on an empty FIFO, 14 bytes lent:{read}"));
 }
 
-fn mask_in_normal_mode(rt: &impl Print) -> io::Result<()> {
+fn mask_in_normal_mode(out: &mut Printer) {
     let write = transfer(&mut normal(), &[0x74, 0xFF, 0xE0, 0, 0, 0, 0]);
-    println!(rt; "a mask write in normal mode: {write}")
+    out.line(format_args!("a mask write in normal mode:{write}"));
 }
 
 // After 0x54 the new message stays, and only its own completion takes it.
-fn cleared_while_running(rt: &impl Print) -> io::Result<()> {
+fn cleared_while_running(out: &mut Printer) {
     let mut d = normal();
     transfer(&mut d, &[0x12, 0x01, 0x24, 0x60, 0x00]);
     transfer(&mut d, &[0x16, 0x80]);
@@ -131,80 +130,85 @@ fn cleared_while_running(rt: &impl Print) -> io::Result<()> {
     let own = happens(&mut d, Event::Completed);
     let first = read::<1>(&mut d, 0xEE);
     let second = read::<1>(&mut d, 0xEE);
-    print!(rt;
-        "0x54 while one runs, a new message, the old completion, STATF, then the new one's history: "
-    )?;
-    println!(rt; "{begun} {cleared} {new} {old} {statf} {again} {own} {first} {second}")
+    out.front(
+        "0x54 while one runs, a new message, the old completion, STATF, then the new one's history:",
+    );
+    out.line(format_args!("{begun}{cleared}{new}{old}{statf}{again}{own}{first}{second}"));
 }
 
-fn length_code_nine(rt: &impl Print) -> io::Result<()> {
+fn length_code_nine(out: &mut Printer) {
     let mut d = normal();
     let eight = frame_with(&mut d, 0x123, 9, 8, [1, 2, 3, 4, 5, 6, 7, 8]);
     let nine = frame_with(&mut d, 0x123, 9, 9, [1, 2, 3, 4, 5, 6, 7, 8]);
     let read = read::<14>(&mut d, 0x48);
-    println!(rt; "length code 9 with eight bytes, with nine, and as read: {eight} {nine} {read}")
+    out.line(format_args!(
+        "length code 9 with eight bytes, with nine, and as read:{eight}{nine}{read}"
+    ));
 }
 
-fn filtered_off(rt: &impl Print) -> io::Result<()> {
+fn filtered_off(out: &mut Printer) {
     let mut d = filtering(0, 0);
     let missed = scan(&mut d, 0x124);
     let read = read::<5>(&mut d, 0x44);
-    println!(rt; "a frame that no filter matches, in the temporary buffer: {missed} {read}")
+    out.line(format_args!(
+        "a frame that no filter matches, in the temporary buffer:{missed}{read}"
+    ));
 }
 
 // Thirteen bytes lent are one too few for 0x48.
-fn short_buffer(rt: &impl Print) -> io::Result<()> {
+fn short_buffer(out: &mut Printer) {
     let mut d = normal();
     let queued = scan(&mut d, 0x123);
     let short = Number(lending::<13>(&mut d, &[0x48]));
     let read = read::<4>(&mut d, 0x48);
-    println!(rt; "a read with too short a buffer, then one long enough: {queued} {short} {read}")
+    out.line(format_args!(
+        "a read with too short a buffer, then one long enough:{queued}{short}{read}"
+    ));
 }
 
-fn stranger_at_a_full_queue(rt: &impl Print) -> io::Result<()> {
+fn stranger_at_a_full_queue(out: &mut Printer) {
     let mut d = filtering(0, 0);
     let eight = full_queue(&mut d);
     let stranger = scan(&mut d, 0x124);
     let ours = scan(&mut d, 0x123);
-    println!(rt; "a full queue, a stranger's frame, one of ours:{eight} {stranger} {ours}")
+    out.line(format_args!("a full queue, a stranger's frame, one of ours:{eight}{stranger}{ours}"));
 }
 
 // What stands in the payload behind the frame's own bytes is nothing to filters and reads.
-fn payload_behind_the_count(rt: &impl Print) -> io::Result<()> {
+fn payload_behind_the_count(out: &mut Printer) {
     let mut d = filtering(0xAA, 0xFF);
     let without = frame_with(&mut d, 0x123, 0, 0, [0xAA; 8]);
     let mut payload = [0x55; 8];
     payload[0] = 0xAA;
     let with = frame_with(&mut d, 0x123, 1, 1, payload);
     let read = read::<14>(&mut d, 0x48);
-    print!(rt;
-        "filters that ask for AA: a frame without data, AA behind it; one with AA, 55 behind it, and as read: "
-    )?;
-    println!(rt; "{without} {with} {read}")
+    out.front(
+        "filters that ask for AA: a frame without data, AA behind it; one with AA, 55 behind it, and as read:",
+    );
+    out.line(format_args!("{without}{with}{read}"));
 }
 
-fn unknown_kind(rt: &impl Print) -> io::Result<()> {
+fn unknown_kind(out: &mut Printer) {
     let unknown = happens(&mut normal(), Event::Unknown);
-    println!(rt; "an event of no kind that there is: {unknown}")
+    out.line(format_args!("an event of no kind that there is:{unknown}"));
 }
 
-fn each(rt: &impl Print) -> io::Result<()> {
-    eight_and_a_ninth(rt)?;
-    message_to_send(rt)?;
-    empty_fifo(rt)?;
-    mask_in_normal_mode(rt)?;
-    cleared_while_running(rt)?;
-    length_code_nine(rt)?;
-    filtered_off(rt)?;
-    short_buffer(rt)?;
-    stranger_at_a_full_queue(rt)?;
-    payload_behind_the_count(rt)?;
-    unknown_kind(rt)?;
-    last_numbers::each(rt)?;
-    ranges::each(rt)
+fn each(out: &mut Printer) {
+    eight_and_a_ninth(out);
+    message_to_send(out);
+    empty_fifo(out);
+    mask_in_normal_mode(out);
+    cleared_while_running(out);
+    length_code_nine(out);
+    filtered_off(out);
+    short_buffer(out);
+    stranger_at_a_full_queue(out);
+    payload_behind_the_count(out);
+    unknown_kind(out);
+    last_numbers::each(out);
+    ranges::each(out);
 }
 
 fn main(rt: HostRuntime) {
-    // What can't be written is not told of.
-    let _ = each(&rt);
+    each(&mut Printer(rt.stdout()));
 }

@@ -1,6 +1,5 @@
 -- `Header::id_to_send` meets its contract: below ID18 a standard identifier has nothing but zeros. Assumes nothing.
 use Rattle.std.proofs.Common.{◌≡◌, false, arith}
-use Rattle.std.proofs.Math.Nat.{add-zero}
 use Rattle.base.specs.Bit.{bits}
 use Rattle.frame.specs.declared.Header.{Header}
 use Rattle.frame.specs.Tables.{id_to_send, id_bits}
@@ -24,4 +23,4 @@ unfolding id_to_send
 returns-else-self c =
     let h = c.args.self in
     let standard = c.if-self.false in
-    rw (c.laid_out-else-self.ensures, below_id18 h standard, below_id15 h standard, below_id7 h standard, standard) (simp add-zero)
+    rw (c.laid_out-else-self.ensures, below_id18 h standard, below_id15 h standard, below_id7 h standard, standard) (grind arith)
